@@ -1,0 +1,2 @@
+pub mod FaultsTell
+pub mod EachElement
