@@ -4,5 +4,6 @@ pub mod Rules
 pub mod Order
 pub mod Examples
 pub mod Promises
+pub mod Worked
 pub mod Values
 pub mod Faults

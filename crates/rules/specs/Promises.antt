@@ -24,9 +24,9 @@ First-there = (f : Rule → Bool) (r : Rule) → a-rule r ≡ true → f r ≡ t
 abbrev pub First-or-none : Type 0
 First-or-none = (f : Rule → Bool) → ((r : Rule) × First f r) ⊎ None f
 
--- no two rules are spelled alike
+-- no two rules are spelled alike, be they valid or not
 abbrev pub Spelled-once : Type 0
-Spelled-once = (r q : Rule) → a-rule r ≡ true → a-rule q ≡ true → rule-spelled r ≡ rule-spelled q → r ≡ q
+Spelled-once = (r q : Rule) → rule-spelled r ≡ rule-spelled q → r ≡ q
 
 unfoldable pub made-length : Made → ℕ
 made-length nothing = 0

@@ -46,7 +46,7 @@ unfoldable pub is-made : Made → List ℕ → Bool
 is-made nothing w = false
 is-made (made t) w = same t w
 
--- the same is made; nothing is the same as nothing, and as no bytes
+-- the same is made: the same bytes, or nothing twice; nothing is not the same as no bytes
 unfoldable pub same-made : Made → Made → Bool
 same-made nothing nothing = true
 same-made nothing (made b) = false
