@@ -16,3 +16,4 @@ pub mod WorkedTable
 pub mod EachElement
 pub mod FaultsTell
 pub mod NthCounts
+pub mod NthSpot

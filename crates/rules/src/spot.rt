@@ -1,5 +1,6 @@
 // Where a place is in a text.
 ghost use mathlib.Core.Path.{_≡_};
+ghost use mathlib.Core.Bool.{_&&_};
 ghost use Prim.Native.Nat.{_-_, _≤_};
 ghost use Rattle.std.specs.Vec.{listOf};
 ghost use Rattle.rules.specs.Lists.{pick};
@@ -37,6 +38,13 @@ fn behind_is(text: &[u8], kind: Kind, at: usize) -> bool
     }
 }
 
+// Whether the place is one before which there is a `left` and behind which there is a `right`.
+fn is_between(text: &[u8], left: Kind, right: Kind, at: usize) -> bool
+    ensures { λ r. ⌜ r ≡ (before-is (now (text .entry)) (kind-number left) at && behind-is (now (text .entry)) (kind-number right) at) ⌝ }
+{
+    before_is(text, left, at) && behind_is(text, right, at)
+}
+
 // The position that comes after `step` others: from the beginning, or from the end if `back`.
 fn position(len: usize, step: usize, back: bool) -> usize
     requires { ⌜ step ≤ len ⌝ }
@@ -52,7 +60,7 @@ pub fn nth_spot(text: &[u8], left: Kind, right: Kind, n: u64, back: bool) -> Opt
     let mut count = 0u64;
     for step in 0..=text.len() {
         let at = position(text.len(), step, back);
-        if before_is(text, left, at) && behind_is(text, right, at) {
+        if is_between(text, left, right, at) {
             count += 1;
             if count == n {
                 return Some(at);
