@@ -11,6 +11,7 @@ pub mod IdleParts
 pub mod MoreExamples
 pub mod NoDoubt
 pub mod PlacesWithin
+pub mod CutMakes
 pub mod BytesComeFrom
 pub mod WorkedTable
 pub mod EachElement

@@ -7,3 +7,4 @@ pub mod Promises
 pub mod Worked
 pub mod Values
 pub mod Faults
+pub mod Answers

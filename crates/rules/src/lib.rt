@@ -1,10 +1,12 @@
 // Rules that make a text of a text: what they make, what they cost, how they are spelled, and which comes first.
 mod bytes;
+mod cut;
 mod fault;
 mod kind;
 mod part;
 mod place;
 mod promises;
+mod room;
 mod rule;
 mod spot;
 mod worked;
@@ -15,6 +17,7 @@ pub use kind::Kind;
 pub use part::Cut;
 pub use part::Part;
 pub use place::Place;
+pub use room::NoRoom;
 pub use rule::Rule;
 pub use promises::a_first_rule_if_any;
 pub use promises::first_or_none;
