@@ -16,5 +16,10 @@ pub mod BytesComeFrom
 pub mod WorkedTable
 pub mod EachElement
 pub mod FaultsTell
+pub mod WrittenBytes
+pub mod MakesInto
+pub mod CostAdds
+pub mod FindSays
+pub mod EarlierStep
 pub mod NthCounts
 pub mod NthSpot

@@ -8,3 +8,4 @@ pub mod Worked
 pub mod Values
 pub mod Faults
 pub mod Answers
+pub mod Entry

@@ -37,7 +37,7 @@ impl Kind {
 
     // The kind of that number, if there is one.
     pub fn numbered(number: u64) -> Option<Kind>
-        ensures { λ r. ⌜ Cases r (a-kind number ≡ false) (λ k. kind-number k ≡ number) ⌝ }
+        ensures { λ r. ⌜ Cases r (a-kind number ≡ false) (λ k. (kind-number k ≡ number) × (a-kind number ≡ true)) ⌝ }
     {
         match number {
             0 => Some(Kind::Anything),

@@ -1,8 +1,12 @@
 // Rules that make a text of a text: what they make, what they cost, how they are spelled, and which comes first.
 mod bytes;
+mod cost;
 mod cut;
+mod order;
 mod fault;
+mod entry;
 mod kind;
+mod makes;
 mod part;
 mod place;
 mod promises;
@@ -13,6 +17,8 @@ mod worked;
 
 pub use bytes::all_bytes;
 pub use fault::Fault;
+pub use entry::Reply;
+pub use entry::find;
 pub use kind::Kind;
 pub use part::Cut;
 pub use part::Part;
