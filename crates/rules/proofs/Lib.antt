@@ -18,8 +18,9 @@ pub mod EachElement
 pub mod FaultsTell
 pub mod WrittenBytes
 pub mod MakesInto
-pub mod CostAdds
+pub mod SumOverParts
 pub mod FindSays
 pub mod EarlierStep
+pub mod SpellsParts
 pub mod NthCounts
 pub mod NthSpot

@@ -12,6 +12,7 @@ mod place;
 mod promises;
 mod room;
 mod rule;
+mod spelling;
 mod spot;
 mod worked;
 

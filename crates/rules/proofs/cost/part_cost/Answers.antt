@@ -1,19 +1,14 @@
-use mathlib.Core.Bool.{true}
-use mathlib.Core.Path.{_≡_, ap, sym, subst, _∙_}
+use mathlib.Core.Path.{ap, sym, _∙_}
 use Prim.Native.Nat.{_+_, _*_, _≤_}
 use native.Mathlib.Omega.{arith}
 use borrow.Author.Needs.{needs}
-use lib.ListN.{length}
-use Rattle.rules.specs.Rules.{part-cost, a-part}
+use Rattle.rules.specs.Rules.{part-cost}
 use Rattle.rules.specs.Values.{the-part}
-use Rattle.rules.proofs.CostAdds.{literal-short}
+use Rattle.rules.proofs.SumOverParts.{literal-few}
 use Rattle.rules.proofs.cost.part_cost.Needs as need
 
 short : (c : need.After-len) → c .len .result ≤ 64
-short c =
-    let few = literal-short _ (subst (λ p. a-part (the-part p) ≡ true) (c .in-Bytes .is) (c .pre)) in
-    let long = c .in-Bytes .literal .ok .0 in
-    omega arith
+short c = let few = literal-few (c .args .part .now) (c .in-Bytes .literal) (c .in-Bytes .is) (c .pre) in omega arith
 
 pub mul-result : need.mul-result
 mul-result c = let few = short c in omega arith
