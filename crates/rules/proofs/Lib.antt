@@ -22,5 +22,7 @@ pub mod SumOverParts
 pub mod FindSays
 pub mod EarlierStep
 pub mod SpellsParts
+pub mod ReadsBytes
+pub mod ReadsParts
 pub mod NthCounts
 pub mod NthSpot

@@ -93,8 +93,7 @@ pub rule-spelled-told :
 rule-spelled-told ps out after then end h e₁ e₂ n =
     let count = each-length the-part ps in
     let told = told-with-room (rule-spelled (the-parts ps)) out (omega arith) in
-    let both = written-next out 0 1 (length ps ∷ []) (flat part-spelled (the-parts ps)) after then (omega arith) e₁ refl e₂ in
-    (
+    let both = written-next out 0 1 (length ps ∷ []) (flat part-spelled (the-parts ps)) after then (omega arith) e₁ refl e₂ in (
       ap (λ k. Ok k) (let k : end ≡ length (rule-spelled (the-parts ps)) = omega arith in k) ∙ sym (told .0),
       both ∙ ap (λ k. written out 0 (k ∷ flat part-spelled (the-parts ps))) (sym count) ∙ sym (told .1),
     )

@@ -32,8 +32,8 @@ written-append out at xs ys h =
     let long : length before ≡ at + length xs = let n = length-append (take at out) xs in let k = length-take-le at out (omega arith) in omega arith in
     let front : take (at + length xs) (written out at xs) ≡ before = ap (take (at + length xs)) is ∙ take-at before rest (at + length xs) long in
     let back : drop (at + length xs + length ys) (written out at xs) ≡ drop (at + length (xs ++ ys)) out =
-        sym (drop-drop (length ys) (at + length xs) (written out at xs)) ∙ ap (drop (length ys)) (ap (drop (at + length xs)) is ∙ drop-at before rest (at + length xs) long)
-        ∙ drop-drop (length ys) (at + length xs) out ∙ ap (λ n. drop n out) (let n = length-append xs ys in omega arith) in
+    sym (drop-drop (length ys) (at + length xs) (written out at xs)) ∙ ap (drop (length ys)) (ap (drop (at + length xs)) is ∙ drop-at before rest (at + length xs) long)
+    ∙ drop-drop (length ys) (at + length xs) out ∙ ap (λ n. drop n out) (let n = length-append xs ys in omega arith) in
     ap₂ (λ f b. f ++ (ys ++ b)) front back ∙ append-assoc (take at out) xs _ ∙ ap (λ l. take at out ++ l) (sym (append-assoc xs ys _))
 
 pub written-none : (out : List ℕ) (at : ℕ) → written out at [] ≡ out

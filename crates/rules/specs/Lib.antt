@@ -9,3 +9,4 @@ pub mod Values
 pub mod Faults
 pub mod Answers
 pub mod Entry
+pub mod Reading

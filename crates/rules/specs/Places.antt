@@ -11,7 +11,7 @@ use Rattle.rules.specs.Lists.{pick, or, those, between, up-to, backwards}
 abbrev pub of-kind : ℕ → ℕ → Bool
 of-kind k c =
     pick (eqb k 1) (between 48 57 c) (pick (eqb k 2) (or (between 65 90 c) (between 97 122 c)) (pick (eqb k 3) (between 65 90 c)
-        (pick (eqb k 4) (between 97 122 c) (pick (eqb k 5) (eqb c 32) (eqb k (256 + c))))))
+    (pick (eqb k 4) (between 97 122 c) (pick (eqb k 5) (eqb c 32) (eqb k (256 + c))))))
 
 -- the text has a byte at p, and it is of the kind k
 abbrev pub there : List ℕ → ℕ → ℕ → Bool

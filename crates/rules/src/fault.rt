@@ -34,8 +34,13 @@ pub impl fmt::Display for Fault as FaultDisplay {
         match *self {
             Fault::PartCount(n) => write!(f, "a rule has up to 8 parts, and this one {n}"),
             Fault::LiteralLength(n) => write!(f, "a literal has 1 to 64 bytes, and this one {n}"),
-            Fault::PlaceNumber(n) => write!(f, "a place's number is at most 64, and this one is {n}"),
-            Fault::NthZero => f.write_str("an nth place is counted from 1, and this one is number 0"),
+            Fault::PlaceNumber(n) => write!(
+                f,
+                "a place's number is at most 64, and this one is {n}"
+            ),
+            Fault::NthZero => f.write_str(
+                "an nth place is counted from 1, and this one is number 0",
+            ),
             Fault::NoKind => f.write_str("an nth place has a kind on one side at least"),
             Fault::KindNumber(n) => write!(f, "no kind has the number {n}"),
             Fault::Tag(b) => write!(f, "the byte {b} begins no part and no place"),

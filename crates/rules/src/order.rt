@@ -57,6 +57,10 @@ impl Rule {
     {
         let cost = self.cost();
         let other_cost = other.cost();
-        if cost == other_cost { spelled_earlier(self, other) } else { cost < other_cost }
+        if cost == other_cost {
+            spelled_earlier(self, other)
+        } else {
+            cost < other_cost
+        }
     }
 }

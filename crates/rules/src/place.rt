@@ -30,7 +30,11 @@ pub enum Place {
 fn number_fault(n: u8) -> Option<Fault>
     ensures { λ r. ⌜ r ≡ number-fault n ⌝ }
 {
-    if n <= 64 { None } else { Some(Fault::PlaceNumber(n)) }
+    if n <= 64 {
+        None
+    } else {
+        Some(Fault::PlaceNumber(n))
+    }
 }
 
 // What is wrong with an nth place, if anything.
@@ -55,7 +59,12 @@ impl Place {
     {
         match self {
             Place::FromFirst(n) | Place::FromLast(n) => number_fault(n),
-            Place::NthOf { left, right, n, back: _ } => nth_fault(left, right, n),
+            Place::NthOf {
+                left,
+                right,
+                n,
+                back: _,
+            } => nth_fault(left, right, n),
         }
     }
 }

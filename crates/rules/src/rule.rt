@@ -34,7 +34,7 @@ fn parts_fault(parts: &[Part]) -> Option<Fault>
 impl Rule {
     // A rule of these parts, or what is wrong with them.
     pub fn new(parts: Vec<Part>) -> Result<Rule, Fault>
-        ensures { λ r. ⌜ Cases r (λ rule. vec-items (rule .parts) ≡ vec-items parts) (λ fault. rule-fault (the-parts (vec-items parts)) ≡ Some fault) ⌝ }
+        ensures { λ r. ⌜ Cases r (λ rule. (vec-items (rule .parts) ≡ vec-items parts) × (rule-fault (the-parts (vec-items parts)) ≡ None)) (λ fault. rule-fault (the-parts (vec-items parts)) ≡ Some fault) ⌝ }
     {
         if parts.len() > 8 {
             return Err(Fault::PartCount(parts.len()));

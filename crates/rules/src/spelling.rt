@@ -67,10 +67,27 @@ fn put_place(out: &mut [u8], at: usize, place: Place) -> usize
             put(out, at, &[1, n]);
             at + 2
         }
-        Place::NthOf { left, right, n, back } => {
+        Place::NthOf {
+            left,
+            right,
+            n,
+            back,
+        } => {
             let l = left.number();
             let r = right.number();
-            put(out, at, &[2, (l / 256) as u8, (l % 256) as u8, (r / 256) as u8, (r % 256) as u8, n, back as u8]);
+            put(
+                out,
+                at,
+                &[
+                    2,
+                    (l / 256) as u8,
+                    (l % 256) as u8,
+                    (r / 256) as u8,
+                    (r % 256) as u8,
+                    n,
+                    back as u8,
+                ],
+            );
             at + 7
         }
     }

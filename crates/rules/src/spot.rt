@@ -76,9 +76,18 @@ impl Place {
         ensures { λ r. ⌜ listOf r ≡ spot (now (text .entry)) (the-place self) ⌝ }
     {
         match self {
-            Place::FromFirst(n) => if n as usize <= text.len() { Some(n as usize) } else { None },
+            Place::FromFirst(n) => if n as usize <= text.len() {
+                Some(n as usize)
+            } else {
+                None
+            },
             Place::FromLast(n) => text.len().checked_sub(n as usize),
-            Place::NthOf { left, right, n, back } => nth_spot(text, left, right, n as u64, back),
+            Place::NthOf {
+                left,
+                right,
+                n,
+                back,
+            } => nth_spot(text, left, right, n as u64, back),
         }
     }
 }

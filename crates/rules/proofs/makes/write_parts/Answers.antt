@@ -20,7 +20,7 @@ add-at c =
 pub loop-part-again : need.loop-part-again
 loop-part-again c =
     elim (c .match-makes .came) [
-        in-Some w ↦ written-more _ _ _ _ (c .loop-part-test .taken) (c .part-item .is) _ _ _ (c .loop-part .inv) (c .pre) _ _ _ (w .in-Some .ensures tt) (w .out-is ∙ w .put .ensures) (w .at-is)
+      | in-Some w ↦ written-more _ _ _ _ (c .loop-part-test .taken) (c .part-item .is) _ _ _ (c .loop-part .inv) (c .pre) _ _ _ (w .in-Some .ensures tt) (w .out-is ∙ w .put .ensures) (w .at-is)
       | in-rest w ↦ absurd (written-never _ _ _ _ (c .loop-part-test .taken) (c .part-item .is) _ _ _ (c .loop-part .inv) (c .pre) (w .in-rest .ensures tt))
     ]
 

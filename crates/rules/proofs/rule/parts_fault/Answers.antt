@@ -24,8 +24,7 @@ pub loop-part-again : need.loop-part-again
 loop-part-again c =
     let left = each-left the-part _ _ _ (c .loop-part-test .taken) (c .part-item .is) in
     let past = each-past the-part _ _ _ (c .loop-part-test .taken) (c .part-item .is) in
-    let none = fault-not-found (the-part (c .part-item .result)) (the-parts (drop (c .loop-part .part-index + 1) (c .args .parts .now))) _ (c .fault-fault .ensures .value) (sym (c .if-is-some .ensures tt)) in
-    (
+    let none = fault-not-found (the-part (c .part-item .result)) (the-parts (drop (c .loop-part .part-index + 1) (c .args .parts .now))) _ (c .fault-fault .ensures .value) (sym (c .if-is-some .ensures tt)) in (
       sym (none .1) ∙ ap parts-fault (sym left) ∙ c .loop-part .inv .0,
       subst (λ r. every a-part r ≡ true) (sym past) (every-push a-part _ _ (c .loop-part .inv .1) (c .fault-fault .ensures .right (none .0))),
     )

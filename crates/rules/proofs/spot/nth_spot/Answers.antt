@@ -15,7 +15,7 @@ returns-then-count-n c =
 one-more : (c : Joined-is-between) → Counted (c .args .text .now) (kind-number (c .args .left)) (kind-number (c .args .right)) (c .args .n) (c .args .back) (c .if-is-between .count) (c .loop-step .step + 1)
 one-more c =
     elim (c .if-is-between .came) [
-        then-is-between·else-count-n w ↦ counted-fits _ _ _ _ _ _ _ _ (c .loop-step .inv) (search needs) (c .position-at .ensures) _ (w .count-is) (sym (w .if-is-between .ensures tt)) (w .if-count-n .left)
+      | then-is-between·else-count-n w ↦ counted-fits _ _ _ _ _ _ _ _ (c .loop-step .inv) (search needs) (c .position-at .ensures) _ (w .count-is) (sym (w .if-is-between .ensures tt)) (w .if-count-n .left)
       | else-is-between w ↦ counted-not _ _ _ _ _ _ _ _ (c .loop-step .inv) (search needs) (c .position-at .ensures) _ (w .count-is) (sym (w .if-is-between .ensures tt))
     ]
 

@@ -16,7 +16,7 @@ returns-then-len-gt8 c = many-told (vec-items (c .args .parts)) _ (c .len-then-l
 pub ghost-result : need.ghost-result
 ghost-result c = (
   rule-right _ _ (c .len .ensures ∙ c .args .parts .ok .0) (c .if-len-gt8 .left)
-  (subst (λ ps. every a-part (the-parts ps) ≡ true) (c .as-slice .ensures .value) (c .parts-fault .ensures .right (c .in-None .is))),
+      (subst (λ ps. every a-part (the-parts ps) ≡ true) (c .as-slice .ensures .value) (c .parts-fault .ensures .right (c .in-None .is))),
   tt,
 )
 
