@@ -24,5 +24,6 @@ pub mod EarlierStep
 pub mod SpellsParts
 pub mod ReadsBytes
 pub mod ReadsParts
+pub mod MadeIsShort
 pub mod NthCounts
 pub mod NthSpot
