@@ -1,0 +1,2 @@
+pub mod RowsOfLines
+pub mod LinesGoneThrough
