@@ -24,6 +24,9 @@ pub mod EarlierStep
 pub mod SpellsParts
 pub mod ReadsBytes
 pub mod ReadsParts
+pub mod FaultlessRules
+pub mod SpellingIsRead
+pub mod ReadIsSpelling
 pub mod MadeIsShort
 pub mod NthCounts
 pub mod NthSpot

@@ -4,13 +4,15 @@ use mathlib.Core.Bool.{Bool, true, false}
 use mathlib.Core.List.{List, [], _∷_, _++_}
 use mathlib.Core.Logic.{_⊎_}
 use Prim.Native.Nat.{ℕ, _+_, _≤_, _<_}
-use lib.Dec.{leb}
+use lib.Dec.{ltb, leb}
 use lib.ListN.{length, take, drop}
+use Rattle.std.specs.declared.result.Result.the-variants.{Ok}
 use Rattle.rules.specs.Lists.{every}
 use Rattle.rules.specs.Places.{Place, spot}
 use Rattle.rules.specs.Rules.{Part, Rule, Made, nothing, made, makes, part-of, is-made, cost, a-rule}
 use Rattle.rules.specs.Order.{rule-spelled, First, None}
 use Rattle.rules.specs.Examples.{Example, does, otherwise}
+use Rattle.rules.specs.Reading.{read-rule}
 
 -- there is one first rule at most
 abbrev pub First-one : Type 0
@@ -27,6 +29,14 @@ First-or-none = (f : Rule → Bool) → ((r : Rule) × First f r) ⊎ None f
 -- no two rules are spelled alike, be they valid or not
 abbrev pub Spelled-once : Type 0
 Spelled-once = (r q : Rule) → rule-spelled r ≡ rule-spelled q → r ≡ q
+
+-- a rule is read back from its spelling
+abbrev pub Spelling-read : Type 0
+Spelling-read = (r : Rule) → a-rule r ≡ true → read-rule (rule-spelled r) ≡ Ok r
+
+-- and bytes from which a rule is read are its spelling, and it is a rule there is
+abbrev pub Read-is-spelling : Type 0
+Read-is-spelling = (bs : List ℕ) (r : Rule) → every (λ c. ltb c 256) bs ≡ true → read-rule bs ≡ Ok r → (rule-spelled r ≡ bs) × (a-rule r ≡ true)
 
 unfoldable pub made-length : Made → ℕ
 made-length nothing = 0

@@ -1,5 +1,5 @@
 // What is promised of all rules there are. Each function has one statement of specs/Promises.antt as its contract, and does nothing.
-ghost use Rattle.rules.specs.Promises.{First-one, First-there, First-or-none, Spelled-once, Parts-make, Less-costs, No-idle, More-examples, No-doubt, Places-within};
+ghost use Rattle.rules.specs.Promises.{First-one, First-there, First-or-none, Spelled-once, Spelling-read, Read-is-spelling, Parts-make, Less-costs, No-idle, More-examples, No-doubt, Places-within};
 
 // There is one first rule at most.
 pub fn one_first_rule()
@@ -19,6 +19,16 @@ pub fn first_or_none()
 // No two rules are spelled alike.
 pub fn spelled_once()
     ensures { λ _. ⌜ Spelled-once ⌝ }
+{}
+
+// A rule is read back from its spelling.
+pub fn a_spelling_is_read_back()
+    ensures { λ _. ⌜ Spelling-read ⌝ }
+{}
+
+// And bytes from which a rule is read are its spelling, and it is a rule there is.
+pub fn what_is_read_is_spelled()
+    ensures { λ _. ⌜ Read-is-spelling ⌝ }
 {}
 
 // The parts of a rule make what is wanted one after the other.
