@@ -1,2 +1,13 @@
+pub mod TellsUtf8
+pub mod Appends
+pub mod BytesBack
+pub mod PlacesBack
+pub mod WordsStrip
+pub mod RunsRead
+pub mod StepsRead
+pub mod ExitsTell
+pub mod ReadsBack
+pub mod ReadsRules
+pub mod NoFault
 pub mod RowsOfLines
 pub mod LinesGoneThrough

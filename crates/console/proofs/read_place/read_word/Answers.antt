@@ -1,0 +1,15 @@
+use borrow.Author.Needs.{needs}
+use Rattle.console.specs.Reading.{read-word}
+use Rattle.console.proofs.read_place.read_word.Needs as need
+
+pub returns-in-Some : need.returns-in-Some
+unfolding read-word
+returns-in-Some c = search needs
+
+pub returns-in-Some-strip : need.returns-in-Some-strip
+unfolding read-word
+returns-in-Some-strip c = search needs
+
+pub returns-in-None : need.returns-in-None
+unfolding read-word
+returns-in-None c = search needs
