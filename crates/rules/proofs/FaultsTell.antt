@@ -63,11 +63,11 @@ some-not-none None h e = absurd (false≢true h)
 some-not-none (Some x) h e = let z : _≡_ {A = ℕ} 0 1 = cc in omega arith
 
 -- what is told of a whole rule, by the number of its parts and by the parts
-pub many-told : (ps : List declared.Part) (n : ℕ) → n ≡ length ps → 8 < n → rule-fault (the-parts ps) ≡ Some (PartCount n)
-many-told ps n e many = let long = each-length the-part ps in grind arith
+pub many-told : (ps : List declared.Part) → 8 < length ps → Some (PartCount (length ps)) ≡ rule-fault (the-parts ps)
+many-told ps many = let long = each-length the-part ps in grind arith
 
-pub few-told : (ps : List declared.Part) (n : ℕ) (f : Option Fault) → n ≡ length ps → n ≤ 8 → f ≡ parts-fault (the-parts ps) → rule-fault (the-parts ps) ≡ f
-few-told ps n f e few told = let long = each-length the-part ps in grind arith
+pub few-told : (ps : List declared.Part) (f : Option Fault) → length ps ≤ 8 → f ≡ parts-fault (the-parts ps) → f ≡ rule-fault (the-parts ps)
+few-told ps f few told = let long = each-length the-part ps in grind arith
 
-pub rule-right : (ps : List declared.Part) (n : ℕ) → n ≡ length ps → n ≤ 8 → every a-part (the-parts ps) ≡ true → a-rule (the-parts ps) ≡ true
-rule-right ps n e few all = let long = each-length the-part ps in and-from _ _ (le-leb _ _ (omega arith)) all
+pub rule-right : (ps : List declared.Part) → length ps ≤ 8 → every a-part (the-parts ps) ≡ true → a-rule (the-parts ps) ≡ true
+rule-right ps few all = let long = each-length the-part ps in and-from _ _ (le-leb _ _ (omega arith)) all

@@ -11,7 +11,6 @@ pub mod IdleParts
 pub mod MoreExamples
 pub mod NoDoubt
 pub mod PlacesWithin
-pub mod CutMakes
 pub mod BytesComeFrom
 pub mod WorkedTable
 pub mod EachElement
@@ -19,7 +18,6 @@ pub mod FaultsTell
 pub mod WrittenBytes
 pub mod MakesInto
 pub mod SumOverParts
-pub mod FindSays
 pub mod EarlierStep
 pub mod SpellsParts
 pub mod ReadsBytes

@@ -31,15 +31,24 @@ fn parts_fault(parts: &[Part]) -> Option<Fault>
     None
 }
 
+// What is wrong with parts that are to be a rule, if anything.
+fn rule_fault(parts: &[Part]) -> Option<Fault>
+    ensures value { λ r. ⌜ r ≡ rule-fault (the-parts (now (parts .entry))) ⌝ }
+    ensures right { λ r. ⌜ (r ≡ None → a-rule (the-parts (now (parts .entry))) ≡ true) ⌝ }
+{
+    if parts.len() > 8 {
+        Some(Fault::PartCount(parts.len()))
+    } else {
+        parts_fault(parts)
+    }
+}
+
 impl Rule {
     // A rule of these parts, or what is wrong with them.
     pub fn new(parts: Vec<Part>) -> Result<Rule, Fault>
         ensures { λ r. ⌜ Cases r (λ rule. (vec-items (rule .parts) ≡ vec-items parts) × (rule-fault (the-parts (vec-items parts)) ≡ None)) (λ fault. rule-fault (the-parts (vec-items parts)) ≡ Some fault) ⌝ }
     {
-        if parts.len() > 8 {
-            return Err(Fault::PartCount(parts.len()));
-        }
-        match parts_fault(parts.as_slice()) {
+        match rule_fault(parts.as_slice()) {
             Some(fault) => Err(fault),
             None => Ok(Rule { parts }),
         }
