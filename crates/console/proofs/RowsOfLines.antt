@@ -1,10 +1,9 @@
 -- Rows are put together byte by byte, from what the rule makes at the front of lent bytes.
-use mathlib.Core.Bool.{Bool, true, false}
+use mathlib.Core.Bool.{Bool, true}
 use mathlib.Core.List.{List, [], _∷_, _++_, append-assoc, append-nil}
 use mathlib.Core.Path.{_≡_, refl, sym, ap, _∙_, subst, subst₂}
 use Prim.Native.Nat.{ℕ, suc, _+_, _<_, _≤_}
 use native.Mathlib.Omega.{arith}
-use lib.Dec.{eqb, leb}
 use lib.ListN.{length, getD, take, drop}
 use Rattle.std.proofs.shelf.Lists.{take-more, take-all, take-at, drop-more, drop-all}
 use Rattle.std.proofs.shelf.Tests.{le-leb, lt-leb, eq-eqb, ne-eqb}
@@ -13,7 +12,7 @@ use Rattle.std.specs.declared.option.Option.{Option}
 use Rattle.std.specs.declared.option.Option.the-variants.{Some, None}
 use Rattle.std.specs.declared.result.Result.the-variants.{Ok, Err}
 use Rattle.rules.specs.Answers.{made-told, made-left, written}
-use Rattle.rules.specs.Lists.{pick, flat}
+use Rattle.rules.specs.Lists.{pick}
 use Rattle.rules.specs.Promises.{made-length}
 use Rattle.rules.specs.Rules.{Rule, Made, nothing, made, makes, a-rule}
 use Rattle.rules.specs.declared.room.NoRoom.{NoRoom}

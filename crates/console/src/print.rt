@@ -7,6 +7,7 @@ ghost use Rattle.std.specs.Vec.{made};
 ghost use Rattle.rules.specs.Rules.{cut};
 ghost use Rattle.rules.specs.Values.{kind-number, the-place, the-part, the-parts};
 ghost use Rattle.console.specs.Text.{hex, shown, quoted, number-text, count-text, kind-text, sides-text, nth-text, place-text, part-text, rule-text};
+ghost use Rattle.rules.specs.Held.{the-rule};
 use crate::words;
 use rules::Kind;
 use rules::Part;
@@ -172,7 +173,7 @@ fn push_parts(out: &mut Vec<u8>, parts: &[Part]) -> Result<(), AllocError>
 
 // The text of a rule.
 pub fn rule_text(heap: Global, rule: &Rule) -> Result<Vec<u8>, AllocError>
-    ensures { λ r. ⌜ made r (λ v. vec-items v ≡ rule-text (the-parts (vec-items (now (rule .entry) .parts)))) ⌝ }
+    ensures { λ r. ⌜ made r (λ v. vec-items v ≡ rule-text (the-rule (now (rule .entry)))) ⌝ }
 {
     let mut out = Vec::new(heap);
     push_parts(&mut out, rule.parts())?;

@@ -8,6 +8,7 @@ ghost use Rattle.rules.specs.Rules.{a-rule};
 ghost use Rattle.rules.specs.Values.{the-part, the-parts};
 ghost use Rattle.console.specs.Reading.{read, read-literal, read-cut, read-part, read-end, read-rule};
 ghost use Rattle.console.specs.Told.{Tells, Tells-made, Tells-all, Stops, Refuses};
+ghost use Rattle.rules.specs.Held.{the-rule};
 use crate::expected::Expected;
 use crate::failed::Failed;
 use crate::failed::Stopped;
@@ -130,7 +131,7 @@ fn refused(text: &[u8], stopped: Stopped) -> NotARule
 
 // The rule that the text is, or why it is none.
 pub fn read_rule(heap: Global, text: &[u8]) -> Result<Rule, NotARule>
-    ensures { λ r. ⌜ Cases r (λ rule. read-rule (now (text .entry)) ≡ read (the-parts (vec-items (rule .parts))) []) (Refuses (now (text .entry))) ⌝ }
+    ensures { λ r. ⌜ Cases r (λ rule. read-rule (now (text .entry)) ≡ read (the-rule rule) []) (Refuses (now (text .entry))) ⌝ }
 {
     match read_parts(heap, text) {
         Ok(parts) => Ok(the_rule(parts)),

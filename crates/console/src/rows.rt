@@ -7,8 +7,8 @@ ghost use Rattle.std.specs.Of.Vec.{vec-items};
 ghost use Rattle.std.specs.Options.{Cases as BySome};
 ghost use Rattle.std.specs.Vec.{made as on-ok};
 ghost use Rattle.rules.specs.Rules.{nothing, made};
-ghost use Rattle.rules.specs.Values.{the-parts};
 ghost use Rattle.console.specs.Rows.{line-length, lines, escaped-byte, escaped, made-of, behind, row, is-something, One-more, Table-of};
+ghost use Rattle.rules.specs.Held.{the-rule};
 use rules::Rule;
 use std::alloc::AllocError;
 use std::alloc::Global;
@@ -52,7 +52,7 @@ fn add_text(out: &mut Vec<u8>, text: &[u8]) -> Result<(), AllocError>
 // What the rule makes of a line, at the front of `room`: so many bytes, if it makes anything.
 fn make(rule: &Rule, line: &[u8], room: &mut [u8]) -> Option<usize>
     requires { ⌜ length (now room) ≡ 512 ⌝ }
-    ensures { λ r. ⌜ BySome r (made-of (the-parts (vec-items (now (rule .entry) .parts))) (now (line .entry)) ≡ nothing) (λ n. (n ≤ 512) × (made-of (the-parts (vec-items (now (rule .entry) .parts))) (now (line .entry)) ≡ made (take n (now (room .exit))))) ⌝ }
+    ensures { λ r. ⌜ BySome r (made-of (the-rule (now (rule .entry))) (now (line .entry)) ≡ nothing) (λ n. (n ≤ 512) × (made-of (the-rule (now (rule .entry))) (now (line .entry)) ≡ made (take n (now (room .exit))))) ⌝ }
 {
     if line.len() > 64 {
         return None;
@@ -75,7 +75,7 @@ fn add_made(out: &mut Vec<u8>, text: &[u8]) -> Result<(), AllocError>
 
 // The row of a line; and whether something was made of it.
 fn add_row(out: &mut Vec<u8>, rule: &Rule, line: &[u8]) -> Result<bool, AllocError>
-    ensures { λ r. ⌜ on-ok r (λ b. (vec-items (now (out .exit)) ≡ vec-items (now (out .entry)) ++ row (the-parts (vec-items (now (rule .entry) .parts))) (now (line .entry))) × (b ≡ is-something (made-of (the-parts (vec-items (now (rule .entry) .parts))) (now (line .entry))))) ⌝ }
+    ensures { λ r. ⌜ on-ok r (λ b. (vec-items (now (out .exit)) ≡ vec-items (now (out .entry)) ++ row (the-rule (now (rule .entry))) (now (line .entry))) × (b ≡ is-something (made-of (the-rule (now (rule .entry))) (now (line .entry))))) ⌝ }
 {
     let mut room = [0u8; 512];
     add_text(out, line)?;
@@ -114,7 +114,7 @@ impl Table {
     // The row of one line more.
     fn add_line(&mut self, rule: &Rule, line: &[u8]) -> Result<(), AllocError>
         requires { ⌜ now self .lines < 2 ^ 64 - 1 ⌝ }
-        ensures { λ r. ⌜ on-ok r (λ _. One-more (the-parts (vec-items (now (rule .entry) .parts))) (now (line .entry)) (now (self .entry)) (now (self .exit))) ⌝ }
+        ensures { λ r. ⌜ on-ok r (λ _. One-more (the-rule (now (rule .entry))) (now (line .entry)) (now (self .entry)) (now (self .exit))) ⌝ }
     {
         let made = add_row(&mut self.rows, rule, line)?;
         self.lines += 1;
@@ -131,7 +131,7 @@ impl Table {
 
 // Goes through a file with a rule, line by line.
 pub fn carry_out(heap: Global, rule: &Rule, file: &[u8]) -> Result<Table, AllocError>
-    ensures { λ r. ⌜ on-ok r (λ t. Table-of (the-parts (vec-items (now (rule .entry) .parts))) (lines (now (file .entry))) t) ⌝ }
+    ensures { λ r. ⌜ on-ok r (λ t. Table-of (the-rule (now (rule .entry))) (lines (now (file .entry))) t) ⌝ }
 {
     let mut table = Table {
         rows: Vec::new(heap),

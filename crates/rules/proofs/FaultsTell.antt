@@ -1,10 +1,10 @@
 -- Where no fault is told there is a place, a literal, a rule.
-use mathlib.Core.Bool.{Bool, true, false, _&&_}
-use mathlib.Core.List.{List, [], _∷_, _++_}
-use mathlib.Core.Path.{_≡_, refl, sym, ap, _∙_}
+use mathlib.Core.Bool.{Bool, true, false}
+use mathlib.Core.List.{List, [], _∷_}
+use mathlib.Core.Path.{_≡_, refl, sym, ap}
 use Prim.Native.Nat.{ℕ, suc, _+_, _<_, _≤_}
 use native.Mathlib.Omega.{arith}
-use lib.Dec.{eqb, ltb, leb}
+use lib.Dec.{ltb}
 use lib.ListN.{length, getD}
 use mir.Syntax.{w8}
 use mir.Val.{Fits}
@@ -14,13 +14,13 @@ use Rattle.std.specs.declared.option.Option.{Option}
 use Rattle.std.specs.declared.option.Option.the-variants.{Some, None}
 use Rattle.rules.specs.declared.fault.Fault.{Fault}
 use Rattle.rules.specs.declared.fault.Fault.the-variants.{PartCount}
-use Rattle.rules.specs.Faults.{or-else, part-fault, place-fault, nth-fault, literal-fault, number-fault, rule-fault, parts-fault}
+use Rattle.rules.specs.Faults.{or-else, part-fault, nth-fault, number-fault, rule-fault, parts-fault}
 use Rattle.rules.specs.declared.part.Part as declared
 use Rattle.rules.specs.Values.{the-part, the-parts}
 use Rattle.rules.proofs.EachElement.{each-length}
-use Rattle.rules.specs.Lists.{every, pick}
-use Rattle.rules.specs.Places.{Place, from-first, from-last, nth-of}
-use Rattle.rules.specs.Rules.{Part, bytes, cut, Rule, a-kind, a-place, a-part, a-rule}
+use Rattle.rules.specs.Lists.{every}
+use Rattle.rules.specs.Places.{from-first, from-last, nth-of}
+use Rattle.rules.specs.Rules.{Part, bytes, Rule, a-kind, a-place, a-part, a-rule}
 
 pub first-right : (n : ℕ) → number-fault n ≡ None → a-place (from-first n) ≡ true
 unfolding a-place

@@ -13,6 +13,7 @@ pub mod NoDoubt
 pub mod PlacesWithin
 pub mod BytesComeFrom
 pub mod WorkedTable
+pub mod RefusalsTold
 pub mod EachElement
 pub mod FaultsTell
 pub mod WrittenBytes

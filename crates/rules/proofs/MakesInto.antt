@@ -14,7 +14,7 @@ use Rattle.std.specs.declared.result.Result.the-variants.{Ok, Err}
 use Rattle.rules.specs.Answers.{written, written-left, made-told, made-left, Fits-in, room-after}
 use Rattle.rules.specs.Lists.{pick}
 use Rattle.rules.specs.Promises.{made-length}
-use Rattle.rules.specs.Rules.{Part, Rule, Made, nothing, made, with-made, makes, part-of}
+use Rattle.rules.specs.Rules.{Part, Made, nothing, made, with-made, makes, part-of}
 use Rattle.rules.specs.Values.{the-part, the-parts}
 use Rattle.rules.specs.declared.part.Part as declared
 use Rattle.rules.proofs.EachElement.{each-append, each-left, each-past}

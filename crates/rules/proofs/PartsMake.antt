@@ -22,11 +22,6 @@ with-made-splits (made a) (made b) w h =
     let f : a ++ b ≡ w = cc in
     (rw (← f, take-at a b (length a) refl) (is-made-itself a), rw (← f, drop-at a b (length a) refl) (is-made-itself b))
 
--- and what two make stands one after the other
-pub with-made-joins : (m n : Made) (v w : List ℕ) → is-made m v ≡ true → is-made n w ≡ true → is-made (with-made m n) (v ++ w) ≡ true
-unfolding with-made
-with-made-joins m n v w h k = rw (is-made-eq m v h, is-made-eq n w k) (is-made-itself (v ++ w))
-
 pub parts-make : Parts-make
 unfolding makes
 parts-make p r t w h = with-made-splits (part-of t p) (makes r t) w h

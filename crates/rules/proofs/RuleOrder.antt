@@ -22,10 +22,6 @@ before-total a b h k =
     let e : rule-spelled a ≡ rule-spelled b = grind (arith, tells) in
     spelled-apart a b e
 
--- what comes before costs no more
-pub before-cost : (a b : Rule) → rule-before a b ≡ true → cost a ≤ cost b
-before-cost a b h = grind (arith, tells)
-
 -- what costs less comes before
 pub cheaper-before : (a b : Rule) → cost a < cost b → rule-before a b ≡ true
 cheaper-before a b h = grind (arith, tells)

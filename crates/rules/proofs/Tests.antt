@@ -2,7 +2,6 @@
 use mathlib.Core.Path.{_≡_, refl, ap₂}
 use mathlib.Core.Bool.{Bool, true, false, _&&_}
 use mathlib.Core.List.{List, [], _∷_, _++_}
-use mathlib.Core.Logic.{_⊎_, inl, inr}
 use Prim.Native.Nat.{ℕ, zero, suc}
 use native.Mathlib.Omega.{arith}
 use lib.Dec.{eqb}
@@ -14,13 +13,6 @@ use Rattle.rules.specs.Lists.{pick, or, every, any, those, same, backwards}
 pub pick-both : {A : Type 0} (b : Bool) (x y : A) (P : A → Type 0) → (b ≡ true → P x) → (b ≡ false → P y) → P (pick b x y)
 pick-both true x y P h k = h refl
 pick-both false x y P h k = k refl
-
-pub or-either : (a b : Bool) → or a b ≡ true → (a ≡ true) ⊎ (b ≡ true)
-or-either true b h = inl refl
-or-either false b h = inr h
-
-pub or-neither : (a b : Bool) → or a b ≡ false → (a ≡ false) × (b ≡ false)
-or-neither a b h = grind arith
 
 pub same-eq : (xs ys : List ℕ) → same xs ys ≡ true → xs ≡ ys
 unfolding same
@@ -58,11 +50,6 @@ pub every-backwards : {A : Type 0} (p : A → Bool) (xs : List A) → every p xs
 unfolding backwards
 every-backwards p [] h = refl
 every-backwards p (x ∷ xs) h = let ih = every-backwards p xs in let a = every-append p (backwards xs) (x ∷ []) in grind arith
-
--- what follows from a test for each element follows from it for all
-pub every-weaker : {A : Type 0} (p q : A → Bool) (xs : List A) → ((x : A) → p x ≡ true → q x ≡ true) → every p xs ≡ true → every q xs ≡ true
-every-weaker p q [] imp h = refl
-every-weaker p q (x ∷ xs) imp h = let ih = every-weaker p q xs imp in let here = imp x in grind arith
 
 pub any-append : {A : Type 0} (p : A → Bool) (xs ys : List A) → any p (xs ++ ys) ≡ or (any p xs) (any p ys)
 any-append p [] ys = refl

@@ -23,11 +23,6 @@ same-made-eq nothing (made b) h = grind arith
 same-made-eq (made a) nothing h = grind arith
 same-made-eq (made a) (made b) h = ap (λ x. made x) (same-eq a b h)
 
-pub same-made-itself : (m : Made) → same-made m m ≡ true
-unfolding same-made
-same-made-itself nothing = refl
-same-made-itself (made a) = same-itself a
-
 pub with-made-assoc : (l m n : Made) → with-made (with-made l m) n ≡ with-made l (with-made m n)
 unfolding with-made
 with-made-assoc nothing m n = refl

@@ -6,7 +6,9 @@ pub mod Examples
 pub mod Promises
 pub mod Worked
 pub mod Values
+pub mod Held
 pub mod Faults
 pub mod Answers
 pub mod Entry
 pub mod Reading
+pub mod Refusals

@@ -6,7 +6,6 @@ use Prim.Native.Nat.{ℕ, zero, suc, _+_, _*_}
 use lib.Dec.{eqb, ltb, leb}
 use lib.ListN.{length, getD, take, drop}
 use denote.Ref.{RefT}
-use Rattle.std.specs.Of.Vec.{vec-items}
 use Rattle.std.specs.declared.option.Option.{Option}
 use Rattle.std.specs.declared.option.Option.the-variants.{Some, None}
 use Rattle.std.specs.declared.result.Result.{Result}
@@ -15,10 +14,10 @@ use Rattle.rules.specs.Faults.{rule-fault}
 use Rattle.rules.specs.Lists.{pick}
 use Rattle.rules.specs.Places.{Place, from-first, from-last, nth-of}
 use Rattle.rules.specs.Rules.{Part, bytes, cut, Rule, a-kind}
-use Rattle.rules.specs.Values.{the-parts}
 use Rattle.rules.specs.declared.fault.Fault.{Fault}
 use Rattle.rules.specs.declared.fault.Fault.the-variants.{PartCount, KindNumber, Tag, EndsEarly, LeftOver, Memory}
-use Rattle.rules.specs.declared.rule as declared
+use Rattle.rules.specs.Held.{the-rule}
+use Rattle.rules.specs.declared.rule.Rule as declared
 
 -- what was read at the front of some bytes, and the bytes behind it; or what is wrong
 abbrev pub Read : Type 0 → Type 0
@@ -94,6 +93,6 @@ abbrev pub Read-so : {A B : Type 0} → (A → B) → Result (A × RefT (List �
 Read-so f (Ok x) s = s ≡ Ok (f (x .0), x .1 .now)
 Read-so f (Err e) s = (e ≡ Memory) ⊎ (s ≡ Err e)
 
-abbrev pub Rule-read : Result declared.Rule.Rule Fault → Result Rule Fault → Type 0
-Rule-read (Ok r) s = s ≡ Ok (the-parts (vec-items (r .parts)))
+abbrev pub Rule-read : Result declared.Rule Fault → Result Rule Fault → Type 0
+Rule-read (Ok r) s = s ≡ Ok (the-rule r)
 Rule-read (Err e) s = (e ≡ Memory) ⊎ (s ≡ Err e)

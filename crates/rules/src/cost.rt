@@ -3,10 +3,10 @@ ghost use mathlib.Core.Path.{_≡_};
 ghost use mathlib.Core.Bool.{true};
 ghost use Prim.Native.Nat.{_≤_};
 ghost use lib.Dec.{eqb};
-ghost use Rattle.std.specs.Of.Vec.{vec-items};
 ghost use Rattle.rules.specs.Lists.{pick};
 ghost use Rattle.rules.specs.Rules.{kind-cost, place-cost, part-cost, cost, a-part, a-rule};
 ghost use Rattle.rules.specs.Values.{kind-number, the-place, the-part, the-parts};
+ghost use Rattle.rules.specs.Held.{the-rule};
 use crate::kind::Kind;
 use crate::part::Part;
 use crate::place::Place;
@@ -75,7 +75,7 @@ fn parts_cost(parts: &[Part]) -> u64
 
 impl Rule {
     pub fn cost(&self) -> u64
-        ensures { λ r. ⌜ r ≡ cost (the-parts (vec-items (now (self .entry) .parts))) ⌝ }
+        ensures { λ r. ⌜ r ≡ cost (the-rule (now (self .entry))) ⌝ }
     {
         parts_cost(self.parts())
     }

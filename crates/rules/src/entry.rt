@@ -1,5 +1,4 @@
 // The entry that finds a place in a text, on plain numbers.
-ghost use mathlib.Core.Path.{_≡_};
 ghost use Rattle.rules.specs.Entry.{Find-says, refusal};
 use crate::kind::Kind;
 use crate::spot::nth_spot;

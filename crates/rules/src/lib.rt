@@ -39,4 +39,5 @@ pub use promises::spelled_once;
 pub use promises::what_is_read_is_spelled;
 pub use room::NoRoom;
 pub use rule::Rule;
+pub use worked::worked_refusals;
 pub use worked::worked_table;

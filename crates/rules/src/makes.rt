@@ -1,10 +1,10 @@
 // What a rule makes of a text, into lent bytes.
 ghost use mathlib.Core.Path.{_≡_};
 ghost use lib.ListN.{length};
-ghost use Rattle.std.specs.Of.Vec.{vec-items};
 ghost use Rattle.rules.specs.Answers.{made-told, made-left, Fits-in};
 ghost use Rattle.rules.specs.Rules.{makes};
 ghost use Rattle.rules.specs.Values.{the-parts};
+ghost use Rattle.rules.specs.Held.{the-rule};
 use crate::part::Part;
 use crate::room::NoRoom;
 use crate::room::put;
@@ -46,8 +46,8 @@ impl Rule {
     // Writes what the rule makes of the text, and says how many bytes that is; `None` where it makes nothing.
     // Where nothing is made, or there is no room, `out` is as it was.
     pub fn makes(&self, text: &[u8], out: &mut [u8]) -> Result<Option<usize>, NoRoom>
-        ensures value { λ r. ⌜ r ≡ made-told (makes (the-parts (vec-items (now (self .entry) .parts))) (now (text .entry))) (length (now (out .entry))) ⌝ }
-        ensures after { λ _. ⌜ now (out .exit) ≡ made-left (makes (the-parts (vec-items (now (self .entry) .parts))) (now (text .entry))) (now (out .entry)) ⌝ }
+        ensures value { λ r. ⌜ r ≡ made-told (makes (the-rule (now (self .entry))) (now (text .entry))) (length (now (out .entry))) ⌝ }
+        ensures after { λ _. ⌜ now (out .exit) ≡ made-left (makes (the-rule (now (self .entry))) (now (text .entry))) (now (out .entry)) ⌝ }
     {
         let made = measure(self.parts(), text, out.len())?;
         if made.is_some() {

@@ -2,14 +2,13 @@
 ghost use mathlib.Core.Path.{_≡_};
 ghost use Prim.Native.Nat.{_≤_};
 ghost use lib.ListN.{length, take};
-ghost use Rattle.std.specs.Of.Vec.{vec-items};
 ghost use Rattle.rules.specs.Lists.{earlier};
 ghost use Rattle.rules.specs.Order.{rule-spelled, rule-before};
-ghost use Rattle.rules.specs.Values.{the-parts};
+ghost use Rattle.rules.specs.Held.{the-rule};
 use crate::rule::Rule;
 
 // Whether the first text comes before the second: at the first difference, by the smaller byte; a text comes before what goes on from it.
-pub fn earlier(first: &[u8], second: &[u8]) -> bool
+fn earlier(first: &[u8], second: &[u8]) -> bool
     ensures { λ r. ⌜ r ≡ earlier (now (first .entry)) (now (second .entry)) ⌝ }
 {
     for (i, a) in first.iter().enumerate() {
@@ -31,7 +30,7 @@ const LONGEST: usize = 529;
 fn spell(rule: &Rule, out: &mut [u8]) -> usize
     requires { ⌜ length (now out) ≡ 529 ⌝ }
     ensures bound { λ r. ⌜ r ≤ 529 ⌝ }
-    ensures after { λ r. ⌜ take r (now (out .exit)) ≡ rule-spelled (the-parts (vec-items (now (rule .entry) .parts))) ⌝ }
+    ensures after { λ r. ⌜ take r (now (out .exit)) ≡ rule-spelled (the-rule (now (rule .entry))) ⌝ }
 {
     match rule.spelled(out) {
         Ok(n) => n,
@@ -41,7 +40,7 @@ fn spell(rule: &Rule, out: &mut [u8]) -> usize
 
 // Whether the spelling of the first rule comes before that of the second.
 fn spelled_earlier(first: &Rule, second: &Rule) -> bool
-    ensures { λ r. ⌜ r ≡ earlier (rule-spelled (the-parts (vec-items (now (first .entry) .parts)))) (rule-spelled (the-parts (vec-items (now (second .entry) .parts)))) ⌝ }
+    ensures { λ r. ⌜ r ≡ earlier (rule-spelled (the-rule (now (first .entry)))) (rule-spelled (the-rule (now (second .entry)))) ⌝ }
 {
     let mut a = [0u8; LONGEST];
     let mut b = [0u8; LONGEST];
@@ -53,7 +52,7 @@ fn spelled_earlier(first: &Rule, second: &Rule) -> bool
 impl Rule {
     // Whether this rule comes before the other: it is cheaper, or as cheap and spelled earlier.
     pub fn comes_before(&self, other: &Rule) -> bool
-        ensures { λ r. ⌜ r ≡ rule-before (the-parts (vec-items (now (self .entry) .parts))) (the-parts (vec-items (now (other .entry) .parts))) ⌝ }
+        ensures { λ r. ⌜ r ≡ rule-before (the-rule (now (self .entry))) (the-rule (now (other .entry))) ⌝ }
     {
         let cost = self.cost();
         let other_cost = other.cost();

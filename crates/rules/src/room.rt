@@ -8,7 +8,7 @@ ghost use Rattle.rules.specs.Answers.{written, room-after};
 pub struct NoRoom;
 
 // Writes bytes from `at` on.
-pub fn put(out: &mut [u8], at: usize, bytes: &[u8])
+pub(crate) fn put(out: &mut [u8], at: usize, bytes: &[u8])
     requires { ⌜ at + length (now bytes) ≤ length (now out) ⌝ }
     ensures { λ _. ⌜ now (out .exit) ≡ written (now (out .entry)) at (now (bytes .entry)) ⌝ }
 {
@@ -16,7 +16,7 @@ pub fn put(out: &mut [u8], at: usize, bytes: &[u8])
 }
 
 // The room that is left after so many bytes more.
-pub fn room_after(left: Option<usize>, more: usize) -> Option<usize>
+pub(crate) fn room_after(left: Option<usize>, more: usize) -> Option<usize>
     ensures { λ r. ⌜ r ≡ room-after left more ⌝ }
 {
     match left {

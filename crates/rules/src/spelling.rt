@@ -3,12 +3,12 @@ ghost use mathlib.Core.Path.{_≡_};
 ghost use mathlib.Core.Bool.{true};
 ghost use Prim.Native.Nat.{_+_, _≤_};
 ghost use lib.ListN.{length};
-ghost use Rattle.std.specs.Of.Vec.{vec-items};
 ghost use Rattle.rules.specs.Answers.{written, written-told, written-left};
 ghost use Rattle.rules.specs.Lists.{flat};
 ghost use Rattle.rules.specs.Order.{place-spelled, part-spelled, rule-spelled};
 ghost use Rattle.rules.specs.Rules.{bytes, cut, a-part, a-rule};
 ghost use Rattle.rules.specs.Values.{the-place, the-part, the-parts};
+ghost use Rattle.rules.specs.Held.{the-rule};
 use crate::part::Cut;
 use crate::part::Part;
 use crate::place::Place;
@@ -159,8 +159,8 @@ fn spell_parts(parts: &[Part], out: &mut [u8]) -> Result<usize, NoRoom>
 impl Rule {
     // Spells the rule, and says with how many bytes. Where there is no room, `out` is as it was.
     pub fn spelled(&self, out: &mut [u8]) -> Result<usize, NoRoom>
-        ensures value { λ r. ⌜ r ≡ written-told (rule-spelled (the-parts (vec-items (now (self .entry) .parts)))) (length (now (out .entry))) ⌝ }
-        ensures after { λ _. ⌜ now (out .exit) ≡ written-left (rule-spelled (the-parts (vec-items (now (self .entry) .parts)))) (now (out .entry)) ⌝ }
+        ensures value { λ r. ⌜ r ≡ written-told (rule-spelled (the-rule (now (self .entry)))) (length (now (out .entry))) ⌝ }
+        ensures after { λ _. ⌜ now (out .exit) ≡ written-left (rule-spelled (the-rule (now (self .entry)))) (now (out .entry)) ⌝ }
     {
         spell_parts(self.parts(), out)
     }

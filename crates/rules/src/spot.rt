@@ -54,7 +54,7 @@ fn position(len: usize, step: usize, back: bool) -> usize
 }
 
 // The nth place before which there is a `left` and behind which there is a `right`, counted from 1, from the end if `back`.
-pub fn nth_spot(text: &[u8], left: Kind, right: Kind, n: u64, back: bool) -> Option<usize>
+pub(crate) fn nth_spot(text: &[u8], left: Kind, right: Kind, n: u64, back: bool) -> Option<usize>
     ensures { λ r. ⌜ listOf r ≡ spot (now (text .entry)) (nth-of (kind-number left) (kind-number right) n back) ⌝ }
 {
     let mut count = 0u64;

@@ -1,6 +1,3 @@
-use lib.ListN.{length}
-use mathlib.Core.Path.{subst, sym, refl}
-use native.Mathlib.Omega.{arith}
 use Rattle.rules.proofs.FaultsTell.{bytes-right, no-bytes-right}
 use Rattle.rules.proofs.bytes.all_bytes.Needs as need
 

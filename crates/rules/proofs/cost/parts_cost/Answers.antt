@@ -1,5 +1,5 @@
-use mathlib.Core.Path.{refl, sym, ap, _∙_}
-use Prim.Native.Nat.{_+_, _≤_}
+use mathlib.Core.Path.{ap, _∙_}
+use Prim.Native.Nat.{_+_}
 use native.Mathlib.Omega.{arith}
 use Rattle.rules.proofs.SumOverParts.{few-parts, is-a-part, cost-of, cost-adds, adds-none, adds-more, adds-all}
 use Rattle.rules.proofs.cost.parts_cost.Needs as need

@@ -1,5 +1,4 @@
 use borrow.Author.Needs.{needs}
-use native.Mathlib.Omega.{arith}
 use Rattle.rules.proofs.FaultsTell.{literal-right}
 use Rattle.rules.proofs.part.literal_fault.Needs as need
 

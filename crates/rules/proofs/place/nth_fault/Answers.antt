@@ -1,4 +1,3 @@
-use mathlib.Core.Path.{_∙_, sym, ap}
 use borrow.Author.Needs.{needs}
 use Rattle.rules.proofs.FaultsTell.{nth-is, nth-right}
 use Rattle.rules.proofs.place.nth_fault.Needs as need

@@ -1,7 +1,7 @@
 use mathlib.Core.Bool.{true}
 use mathlib.Core.Path.{_≡_, _∙_, sym, ap, subst}
 use Prim.Native.Nat.{_+_}
-use lib.ListN.{drop, take}
+use lib.ListN.{drop}
 use Rattle.std.proofs.shelf.Lists.{drop-all, take-all}
 use Rattle.rules.specs.Faults.{parts-fault}
 use Rattle.rules.specs.Lists.{every}

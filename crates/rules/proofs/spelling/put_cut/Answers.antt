@@ -1,8 +1,8 @@
 use mathlib.Core.Path.{refl}
-use mathlib.Core.List.{[], _∷_, _++_}
+use mathlib.Core.List.{[], _∷_}
 use native.Mathlib.Omega.{arith}
 use borrow.Author.Needs.{needs}
-use lib.ListN.{length, length-append}
+use lib.ListN.{length-append}
 use Rattle.rules.specs.Order.{place-spelled, part-spelled}
 use Rattle.rules.specs.Values.{the-place}
 use Rattle.rules.proofs.WrittenBytes.{written-next}

@@ -1,6 +1,5 @@
 use mathlib.Core.Path.{sym}
 use Prim.Native.Nat.{_+_}
-use native.Mathlib.Omega.{arith}
 use borrow.Author.Needs.{needs}
 use Rattle.rules.specs.Values.{kind-number}
 use Rattle.rules.proofs.NthSpot.{Counted, counted-fits, counted-not, counted-found, counted-all}
