@@ -44,7 +44,11 @@ fn apply(rt: &LibcRuntime, rule: &str, file: &str) -> Result<(), Refusal> {
 
 // Does what the arguments ask for.
 fn run(rt: &LibcRuntime) -> Result<(), Refusal> {
-    let args: Vec<String> = env::args(rt)?.collect(rt.alloc())?;
+    let given = match env::args(rt) {
+        Ok(given) => given,
+        Err(error) => return Err(Refusal::NotText(error)),
+    };
+    let args: Vec<String> = given.collect(rt.alloc())?;
     match args.as_slice() {
         [_, rule, file] => apply(rt, rule.as_str(), file.as_str()),
         [_, only] if only.as_str() == "--help" => Ok(rt.print(HELP)?),

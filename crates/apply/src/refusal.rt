@@ -8,6 +8,8 @@ use std::io;
 #[derive(Drop)]
 pub enum Refusal {
     Arguments,
+    // The arguments are no text.
+    NotText(io::Error),
     Rule(NotARule),
     // This file can't be read.
     File(String, io::Error),
@@ -22,6 +24,7 @@ pub impl fmt::Display for Refusal as RefusalDisplay {
             Refusal::Arguments => f.write_str(
                 "a rule and a file are expected, as in: apply RULE FILE (apply --help says more)",
             ),
+            Refusal::NotText(error) => write!(f, "the arguments can't be read as UTF-8: {error}"),
             Refusal::Rule(why) => write!(f, "{why}"),
             Refusal::File(name, error) => write!(f, "the file {name} can't be read: {error}"),
             Refusal::Io(error) => write!(f, "{error}"),

@@ -1,10 +1,22 @@
 // Rules read and printed again, and texts that are none.
 use crate::*;
+use rules::Rule;
 use std::test::*;
 
-// The text is a rule's, and what is printed of that rule.
+// The rule that is read from the spelling of this one.
+fn spelled_and_read(rt: &LibcRuntime, rule: &Rule) -> Result<Rule, Fail> {
+    let mut room = [0u8; 529];
+    let n = rule.spelled(&mut room).ok().ok_or("no room")?;
+    check(n <= room.len())?;
+    let read = Rule::from_spelling(rt.alloc(), &room[0..n])
+        .ok()
+        .ok_or("no rule")?;
+    Ok(read)
+}
+
+// The text is a rule's, and what is printed of that rule, also after it was spelled and read again.
 fn comes_back(rt: &LibcRuntime, text: &str) -> Result<(), Fail> {
-    let rule = read_rule(rt.alloc(), text.as_bytes())?;
+    let rule = spelled_and_read(rt, &read_rule(rt.alloc(), text.as_bytes())?)?;
     let printed = rule_text(rt.alloc(), &rule)?;
     check_eq(printed.as_slice(), text.as_bytes())
 }
