@@ -1,11 +1,11 @@
 -- Rows are put together byte by byte, from what the rule makes at the front of lent bytes.
 use mathlib.Core.Bool.{Bool, true}
-use mathlib.Core.List.{List, [], _∷_, _++_, append-assoc, append-nil}
+use mathlib.Core.List.{List, _++_, append-assoc}
 use mathlib.Core.Path.{_≡_, refl, sym, ap, _∙_, subst, subst₂}
 use Prim.Native.Nat.{ℕ, suc, _+_, _<_, _≤_}
 use native.Mathlib.Omega.{arith}
 use lib.ListN.{length, getD, take, drop}
-use Rattle.std.proofs.shelf.Lists.{take-more, take-all, take-at, drop-more, drop-all}
+use Rattle.std.proofs.shelf.Lists.{take-at, drop-more, drop-all}
 use Rattle.std.proofs.shelf.Tests.{le-leb, lt-leb, eq-eqb, ne-eqb}
 use Rattle.std.specs.Options.{Cases}
 use Rattle.std.specs.declared.option.Option.{Option}
@@ -17,23 +17,7 @@ use Rattle.rules.specs.Promises.{made-length}
 use Rattle.rules.specs.Rules.{Rule, Made, nothing, made, makes, a-rule}
 use Rattle.rules.specs.declared.room.NoRoom.{NoRoom}
 use Rattle.rules.proofs.MadeIsShort.{made-short}
-use Rattle.console.specs.Rows.{line-length, escaped-byte, escaped, made-of, behind, row, is-something}
-
-flat-append : (xs ys : List ℕ) → escaped (xs ++ ys) ≡ escaped xs ++ escaped ys
-flat-append [] ys = refl
-flat-append (x ∷ xs) ys = ap (λ l. escaped-byte x ++ l) (flat-append xs ys) ∙ sym (append-assoc (escaped-byte x) (escaped xs) (escaped ys))
-
--- one byte more of a text
-pub escaped-more : (t : List ℕ) (i : ℕ) → i < length t → escaped (take (i + 1) t) ≡ escaped (take i t) ++ escaped-byte (getD t i 0)
-escaped-more t i h = ap escaped (take-more t i 0 h) ∙ flat-append (take i t) (getD t i 0 ∷ []) ∙ ap (λ l. escaped (take i t) ++ l) (append-nil (escaped-byte (getD t i 0)))
-
--- what is added byte by byte is the text
-pub text-added : (before now then t : List ℕ) (i : ℕ) → i < length t → now ≡ before ++ escaped (take i t) → then ≡ now ++ escaped-byte (getD t i 0) → then ≡ before ++ escaped (take (i + 1) t)
-text-added before now then t i h e₁ e₂ =
-    e₂ ∙ ap (λ l. l ++ escaped-byte (getD t i 0)) e₁ ∙ append-assoc before (escaped (take i t)) (escaped-byte (getD t i 0)) ∙ ap (λ l. before ++ l) (sym (escaped-more t i h))
-
-pub text-all-added : (before now t : List ℕ) (i : ℕ) → length t ≤ i → now ≡ before ++ escaped (take i t) → now ≡ before ++ escaped t
-text-all-added before now t i h e = e ∙ ap (λ l. before ++ escaped l) (take-all i t h)
+use Rattle.console.specs.Rows.{line-length, escaped, made-of, behind, row, is-something}
 
 -- a line that is too long, and one that is not
 pub of-a-long-line : (r : Rule) (line : List ℕ) → 64 < length line → made-of r line ≡ nothing
