@@ -1,4 +1,6 @@
 // Carries out a rule on each line of a file.
+#![tactic(auto)]
+
 mod refusal;
 mod report;
 

@@ -1,4 +1,6 @@
 // What can matter in a search for some examples: places by where they lie, the candidate parts at a state, and a lower bound of what is still needed.
+#![tactic(auto)]
+
 mod candidate;
 mod choose;
 mod example;

@@ -1,4 +1,6 @@
 // What the programs share: rules as text, printed and read back; and a file gone through with a rule.
+#![tactic(auto)]
+
 mod expected;
 mod failed;
 mod not_a_rule;

@@ -5,7 +5,7 @@ use Rattle.std.proofs.lemmas.Bool.{le-leb, lt-leb, leb-true, leb-false}
 use Rattle.rules.specs.Answers.{written, written_left, made_told, made_left, FitsIn, room_after}
 use Rattle.rules.specs.Lists.{pick}
 use Rattle.rules.specs.Promises.{made_length}
-use Rattle.rules.specs.Rules.{Part, Made, nothing, made, with_made, makes, part_of}
+use Rattle.rules.specs.Rules.{Made, nothing, made, with_made, makes, part_of}
 use Rattle.rules.specs.Values.{the_part, the_parts}
 use Rattle.rules.specs.declared.part.Part as declared
 use Rattle.rules.proofs.EachElement.{each_append, each_left, each_past}

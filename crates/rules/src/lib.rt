@@ -1,4 +1,6 @@
 // Rules that make a text of a text: what they make, what they cost, how they are spelled, and which comes first.
+#![tactic(auto)]
+
 mod bytes;
 mod cost;
 mod cut;

@@ -1,4 +1,6 @@
 // The search for the first rule that does some examples: over any automaton as definitions, and in lent memory as code, step by step.
+#![tactic(auto)]
+
 mod frame;
 mod judge;
 mod machine;

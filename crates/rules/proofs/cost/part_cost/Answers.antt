@@ -7,11 +7,11 @@ use Rattle.rules.proofs.cost.part_cost.Goals as goal
 short : (c : goal.After-len) → c.len.result ≤ 64
 short c = let few = literal_few c.args.part.now c.in-Bytes.literal c.in-Bytes.is c.requires in omega arith
 
-pub overflow-mul-result : goal.overflow-mul-result
-overflow-mul-result c = let few = short c in omega arith
+pub overflow_mul-result : goal.overflow_mul-result
+overflow_mul-result c = let few = short c in omega arith
 
-pub overflow-add-result : goal.overflow-add-result
-overflow-add-result c = let few = short c in omega arith
+pub overflow_add-result : goal.overflow_add-result
+overflow_add-result c = let few = short c in omega arith
 
 pub returns-in-Bytes : goal.returns-in-Bytes
 unfolding part_cost

@@ -5,16 +5,16 @@ use Rattle.rules.proofs.cost.parts_cost.Goals as goal
 pub loop-part-init : goal.loop-part-init
 loop-part-init c = adds_none cost_of 527 _
 
-pub part-cost-requires : goal.part-cost-requires
-part-cost-requires c = is_a_part _ c.requires _ _ c.loop-part-test.true c.part-item.is
+pub part_cost-requires : goal.part_cost-requires
+part_cost-requires c = is_a_part _ c.requires _ _ c.loop-part-test.true c.part-item.is
 
-pub overflow-add-total-in-loop-part : goal.overflow-add-total-in-loop-part
-overflow-add-total-in-loop-part c = let few = few_parts c.args.parts.now c.requires in omega arith
+pub overflow_add-total-in-loop-part : goal.overflow_add-total-in-loop-part
+overflow_add-total-in-loop-part c = let few = few_parts c.args.parts.now c.requires in omega arith
 
 pub loop-part-preserved : goal.loop-part-preserved
 loop-part-preserved c =
-    adds_more cost_of 527 _ _ _ _ _ c.loop-part.invariant c.loop-part-test.true c.part-item.is (omega (arith, c.part-cost.ensures.value, c.part-cost.ensures.bound))
-    (ap (λ n. c.loop-part.total + (1 + n)) c.part-cost.ensures.value)
+    adds_more cost_of 527 _ _ _ _ _ c.loop-part.invariant c.loop-part-test.true c.part-item.is (omega (arith, c.part_cost.ensures.value, c.part_cost.ensures.bound))
+    (ap (λ n. c.loop-part.total + (1 + n)) c.part_cost.ensures.value)
 
 pub returns : goal.returns
 returns c = adds_all cost_of 527 _ _ _ c.loop-part.invariant c.loop-part-test.false ∙ cost_adds _

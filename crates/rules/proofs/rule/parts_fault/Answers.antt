@@ -8,10 +8,10 @@ use Rattle.rules.proofs.EachElement.{each_left, each_past, every_push}
 use Rattle.rules.proofs.FaultsTell.{fault_found, fault_not_found, some_not_none}
 use Rattle.rules.proofs.rule.parts_fault.Goals as goal
 
-pub returns-then-is-some : goal.returns-then-is-some
-returns-then-is-some c =
+pub returns-then-is_some : goal.returns-then-is_some
+returns-then-is_some c =
     let left = each_left the_part _ _ _ c.loop-part-test.true c.part-item.is in
-    let some = sym c.if-is-some.ensures in
+    let some = sym c.if-is_some.ensures in
     record {
       value = fault_found (the_part c.part-item.result) (the_parts (drop (c.loop-part.part-index + 1) c.args.parts.now)) _ c.fault-fault.ensures.value some ∙ ap parts_fault (sym left) ∙ c.loop-part.invariant.0;
       right = λ e. absurd (some_not_none _ some e);
@@ -21,7 +21,7 @@ pub loop-part-preserved : goal.loop-part-preserved
 loop-part-preserved c =
     let left = each_left the_part _ _ _ c.loop-part-test.true c.part-item.is in
     let past = each_past the_part _ _ _ c.loop-part-test.true c.part-item.is in
-    let none = fault_not_found (the_part c.part-item.result) (the_parts (drop (c.loop-part.part-index + 1) c.args.parts.now)) _ c.fault-fault.ensures.value (sym c.if-is-some.ensures) in (
+    let none = fault_not_found (the_part c.part-item.result) (the_parts (drop (c.loop-part.part-index + 1) c.args.parts.now)) _ c.fault-fault.ensures.value (sym c.if-is_some.ensures) in (
       sym none.1 ∙ ap parts_fault (sym left) ∙ c.loop-part.invariant.0,
       subst (λ r. every a_part r ≡ true) (sym past) (every_push a_part _ _ c.loop-part.invariant.1 (c.fault-fault.ensures.right none.0)),
     )

@@ -10,6 +10,6 @@ returns-then-parts-gt8 c = record {
 
 pub returns-else-parts-gt8 : goal.returns-else-parts-gt8
 returns-else-parts-gt8 c = record {
-  value = few_told c.args.parts.now _ c.if-parts-gt8.false c.parts-fault.ensures.value;
-  right = λ e. rule_right c.args.parts.now c.if-parts-gt8.false (c.parts-fault.ensures.right e);
+  value = few_told c.args.parts.now _ c.if-parts-gt8.false c.parts_fault.ensures.value;
+  right = λ e. rule_right c.args.parts.now c.if-parts-gt8.false (c.parts_fault.ensures.right e);
 }

@@ -5,16 +5,16 @@ use Rattle.rules.proofs.spelling.parts_length.Goals as goal
 pub loop-part-init : goal.loop-part-init
 loop-part-init c = adds_none spelled_length 66 _
 
-pub part-length-total-requires : goal.part-length-total-requires
-part-length-total-requires c = is_a_part _ c.requires _ _ c.loop-part-test.true c.part-item.is
+pub part_length-total-requires : goal.part_length-total-requires
+part_length-total-requires c = is_a_part _ c.requires _ _ c.loop-part-test.true c.part-item.is
 
-pub overflow-add-total : goal.overflow-add-total
-overflow-add-total c = let few = few_parts c.args.parts.now c.requires in omega arith
+pub overflow_add-total : goal.overflow_add-total
+overflow_add-total c = let few = few_parts c.args.parts.now c.requires in omega arith
 
 pub loop-part-preserved : goal.loop-part-preserved
 loop-part-preserved c =
-    adds_more spelled_length 66 _ _ _ _ _ c.loop-part.invariant c.loop-part-test.true c.part-item.is (omega (arith, c.part-length-total.ensures.value, c.part-length-total.ensures.bound))
-    (ap (λ n. c.loop-part.total + n) c.part-length-total.ensures.value)
+    adds_more spelled_length 66 _ _ _ _ _ c.loop-part.invariant c.loop-part-test.true c.part-item.is (omega (arith, c.part_length-total.ensures.value, c.part_length-total.ensures.bound))
+    (ap (λ n. c.loop-part.total + n) c.part_length-total.ensures.value)
 
 pub returns : goal.returns
 returns c = record {

@@ -11,9 +11,9 @@ pub put-requires-2 : goal.put-requires-2
 unfolding part_spelled
 put-requires-2 c = search rules
 
-pub overflow-add-result-2 : goal.overflow-add-result-2
+pub overflow_add-result-2 : goal.overflow_add-result-2
 unfolding part_spelled
-overflow-add-result-2 c = search rules
+overflow_add-result-2 c = search rules
 
 pub returns : goal.returns
 unfolding part_spelled

@@ -2,22 +2,22 @@ use Rattle.std.proofs.Common.{◌+◌, sym, rules}
 use Rattle.rules.specs.Values.{kind_number}
 use Rattle.rules.proofs.NthSpot.{Counted, counted_fits, counted_not, counted_found, counted_all}
 use Rattle.rules.proofs.spot.nth_spot.Goals as goal
-use Rattle.rules.proofs.spot.nth_spot.Goals.{Joined-is-between, then-is-between+else-count-n, else-is-between}
+use Rattle.rules.proofs.spot.nth_spot.Goals.{Joined-is_between, then-is_between+else-count-n, else-is_between}
 
 pub returns-then-count-n : goal.returns-then-count-n
 returns-then-count-n c =
-    counted_found _ _ _ _ _ _ _ _ c.loop-step.invariant (search rules) c.position-at.ensures (sym c.if-is-between.ensures) c.if-count-n.true
+    counted_found _ _ _ _ _ _ _ _ c.loop-step.invariant (search rules) c.position-at.ensures (sym c.if-is_between.ensures) c.if-count-n.true
 
 -- after a turn, one position more is counted
-one_more : (c : Joined-is-between) → Counted c.args.text.now (kind_number c.args.left) (kind_number c.args.right) c.args.n c.args.back c.if-is-between.count (c.loop-step.step + 1)
+one_more : (c : Joined-is_between) → Counted c.args.text.now (kind_number c.args.left) (kind_number c.args.right) c.args.n c.args.back c.if-is_between.count (c.loop-step.step + 1)
 one_more c =
-    elim c.if-is-between.branch [
-      | then-is-between+else-count-n w ↦ counted_fits _ _ _ _ _ _ _ _ c.loop-step.invariant (search rules) c.position-at.ensures _ w.count-is (sym w.if-is-between.ensures) w.if-count-n.false
-      | else-is-between w ↦ counted_not _ _ _ _ _ _ _ _ c.loop-step.invariant (search rules) c.position-at.ensures _ w.count-is (sym w.if-is-between.ensures)
+    elim c.if-is_between.branch [
+      | then-is_between+else-count-n w ↦ counted_fits _ _ _ _ _ _ _ _ c.loop-step.invariant (search rules) c.position-at.ensures _ w.count-is (sym w.if-is_between.ensures) w.if-count-n.false
+      | else-is_between w ↦ counted_not _ _ _ _ _ _ _ _ c.loop-step.invariant (search rules) c.position-at.ensures _ w.count-is (sym w.if-is_between.ensures)
     ]
 
 pub loop-step-preserved : goal.loop-step-preserved
-loop-step-preserved c = one_more (goal.at.loop-step-preserved c).Joined-is-between
+loop-step-preserved c = one_more (goal.at.loop-step-preserved c).Joined-is_between
 
-pub returns-after-is-between : goal.returns-after-is-between
-returns-after-is-between c = counted_all _ _ _ _ _ _ _ (one_more (goal.at.returns-after-is-between c).Joined-is-between) (search rules)
+pub returns-after-is_between : goal.returns-after-is_between
+returns-after-is_between c = counted_all _ _ _ _ _ _ _ (one_more (goal.at.returns-after-is_between c).Joined-is_between) (search rules)
