@@ -8,6 +8,7 @@ use console::{carry_out, read_rule};
 use refusal::Refusal;
 use report::report;
 use std::io::Write;
+use std::process::ExitCode;
 use std::{env, fs};
 
 const HELP: &str = "apply RULE FILE
@@ -52,10 +53,12 @@ fn run(rt: &HostRuntime) -> Result<(), Refusal> {
     }
 }
 
-fn main(rt: HostRuntime) -> Result<(), Refusal> {
-    let done = run(&rt);
-    if let Err(why) = &done {
-        let _ = eprintln!(rt; "apply: {why}");
+fn main(rt: HostRuntime) -> ExitCode {
+    match run(&rt) {
+        Ok(()) => ExitCode::SUCCESS,
+        Err(why) => {
+            let _ = eprintln!(rt; "apply: {why}");
+            ExitCode::FAILURE
+        }
     }
-    done
 }

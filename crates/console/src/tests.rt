@@ -5,10 +5,10 @@ use std::process::Abort;
 use std::test::*;
 
 // The rule that is read from the spelling of this one.
-fn spelled_and_read(rt: &HostRuntime, rule: &Rule) -> Result<Rule, Fail> {
+fn spelled_and_read(rt: &(impl Abort + AllocGlobal), rule: &Rule) -> Result<Rule, Fail> {
     let mut room = [0u8; 529];
     let n = rule.spelled(&mut room).ok().ok_or("no room")?;
-    assert!(n <= room.len());
+    assert!(rt; n <= room.len());
     let read = Rule::from_spelling(rt.alloc(), &room[0..n])
         .ok()
         .ok_or("no rule")?;
@@ -16,10 +16,10 @@ fn spelled_and_read(rt: &HostRuntime, rule: &Rule) -> Result<Rule, Fail> {
 }
 
 // The text is a rule's, and what is printed of that rule, also after it was spelled and read again.
-fn comes_back(rt: &HostRuntime, text: &str) -> Result<(), Fail> {
+fn comes_back(rt: &(impl Abort + AllocGlobal), text: &str) -> Result<(), Fail> {
     let rule = spelled_and_read(rt, &read_rule(rt.alloc(), text.as_bytes())?)?;
     let printed = rule_text(rt.alloc(), &rule)?;
-    assert_eq!(printed.as_slice(), text.as_bytes());
+    assert_eq!(rt; printed.as_slice(), text.as_bytes());
     Ok(())
 }
 

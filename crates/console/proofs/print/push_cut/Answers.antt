@@ -9,10 +9,10 @@ returns c =
     let from = place_text (the_place c.args.from) in
     let words = to_text (the_place c.args.from) in
     let start = vec_items c.args.out.now in
-    let placed = vec_items c.push-place.new.out in
-    let joined = vec_items c.extend-from-slice-2.new.self in
-    made_last c.push-place-2.result start joined _ (codes "from " ++ from ++ words) (place_text (the_place c.args.to)) _
-    (more_words start placed joined (codes "from " ++ from) words c.to-words.result.now
-    (more start (vec_items c.extend-from-slice.new.self) placed (codes "from ") from c.in-ok-extend-from-slice.ensures.items c.in-ok-push-place.ensures)
-    c.in-ok-extend-from-slice-2.ensures.items c.to-words.ensures)
-    refl c.push-place-2.ensures
+    let placed = vec_items c.push_place.new.out in
+    let joined = vec_items c.extend_from_slice-2.new.self in
+    made_last c.push_place-2.result start joined _ (codes "from " ++ from ++ words) (place_text (the_place c.args.to)) _
+    (more_words start placed joined (codes "from " ++ from) words c.to_words.result.now
+    (more start (vec_items c.extend_from_slice.new.self) placed (codes "from ") from c.in_ok-extend_from_slice.ensures.items c.in_ok-push_place.ensures)
+    c.in_ok-extend_from_slice-2.ensures.items c.to_words.ensures)
+    refl c.push_place-2.ensures

@@ -6,5 +6,5 @@ use Rattle.console.proofs.print.push_kind.Goals as goal
 
 pub returns : goal.returns
 returns c =
-    made_last c.push-quoted.result _ _ _ (codes "there's a ") (quoted (c.in-Sign.byte ∷ [])) _ c.in-ok-extend-from-slice.ensures.items
-    (sign_whole c.args.ends c.in-Sign.byte ∙ ap (λ k. kind_text c.args.ends (kind_number k)) (sym c.in-Sign.is)) c.push-quoted.ensures
+    made_last c.push_quoted.result _ _ _ (codes "there's a ") (quoted (c.in-Sign.byte ∷ [])) _ c.in_ok-extend_from_slice.ensures.items
+    (sign_whole c.args.ends c.in-Sign.byte ∙ ap (λ k. kind_text c.args.ends (kind_number k)) (sym c.in-Sign.is)) c.push_quoted.ensures

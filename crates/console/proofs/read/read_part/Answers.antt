@@ -2,21 +2,21 @@ use Rattle.std.proofs.Common.{rules}
 use Rattle.console.specs.Reading.{read_part}
 use Rattle.console.proofs.read.read_part.Goals as goal
 
-pub returns-in-err-bytes : goal.returns-in-err-bytes
+pub returns-in_err-bytes : goal.returns-in_err-bytes
 unfolding read_part
-returns-in-err-bytes c = search rules
+returns-in_err-bytes c = search rules
 
 pub returns-in-Some : goal.returns-in-Some
 unfolding read_part
 returns-in-Some c = search rules
 
-pub returns-in-default-strip : goal.returns-in-default-strip
+pub returns-in_default-strip : goal.returns-in_default-strip
 unfolding read_part
-returns-in-default-strip c = search rules
+returns-in_default-strip c = search rules
 
-pub returns-in-err-read-cut : goal.returns-in-err-read-cut
+pub returns-in_err-read_cut : goal.returns-in_err-read_cut
 unfolding read_part
-returns-in-err-read-cut c = search rules
+returns-in_err-read_cut c = search rules
 
 pub returns : goal.returns
 unfolding read_part

@@ -2,9 +2,9 @@ use Rattle.std.proofs.Common.{rules}
 use Rattle.console.specs.Reading.{read_count}
 use Rattle.console.proofs.read_place.read_count.Goals as goal
 
-pub returns-in-err-n : goal.returns-in-err-n
+pub returns-in_err-n : goal.returns-in_err-n
 unfolding read_count
-returns-in-err-n c = search rules
+returns-in_err-n c = search rules
 
 pub returns-in-Some : goal.returns-in-Some
 unfolding read_count

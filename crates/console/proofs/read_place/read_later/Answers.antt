@@ -2,9 +2,9 @@ use Rattle.std.proofs.Common.{rules}
 use Rattle.console.specs.Reading.{read_later}
 use Rattle.console.proofs.read_place.read_later.Goals as goal
 
-pub returns-in-err-n : goal.returns-in-err-n
+pub returns-in_err-n : goal.returns-in_err-n
 unfolding read_later
-returns-in-err-n c = search rules
+returns-in_err-n c = search rules
 
 pub returns-then-n-eq1 : goal.returns-then-n-eq1
 unfolding read_later

@@ -2,9 +2,9 @@ use Rattle.std.proofs.Common.{rules}
 use Rattle.console.specs.Reading.{read_place}
 use Rattle.console.proofs.read_place.read_place.Goals as goal
 
-pub returns-then-begins-number : goal.returns-then-begins-number
+pub returns-then-begins_number : goal.returns-then-begins_number
 unfolding read_place
-returns-then-begins-number c = search rules
+returns-then-begins_number c = search rules
 
 pub returns-in-Some : goal.returns-in-Some
 unfolding read_place

@@ -9,10 +9,10 @@ pub loop-kind-init : goal.loop-kind-init
 loop-kind-init c = refl
 
 pub returns-in-Some : goal.returns-in-Some
-returns-in-Some c = sym c.loop-kind.invariant ∙ run_found c.args.ends (Digits ∷ Letters ∷ Capitals ∷ SmallLetters ∷ Blanks ∷ []) c.loop-kind.kind-index c.args.text.now _ _ _ c.loop-kind-test.true c.run-words.ensures c.in-Some.ensures
+returns-in-Some c = sym c.loop-kind.invariant ∙ run_found c.args.ends (Digits ∷ Letters ∷ Capitals ∷ SmallLetters ∷ Blanks ∷ []) c.loop-kind.kind-index c.args.text.now _ _ _ c.loop-kind-test.true c.run_words.ensures c.in-Some.ensures
 
 pub loop-kind-preserved : goal.loop-kind-preserved
-loop-kind-preserved c = sym (run_not_found c.args.ends (Digits ∷ Letters ∷ Capitals ∷ SmallLetters ∷ Blanks ∷ []) c.loop-kind.kind-index c.args.text.now _ _ c.loop-kind-test.true c.run-words.ensures c.in-default.ensures) ∙ c.loop-kind.invariant
+loop-kind-preserved c = sym (run_not_found c.args.ends (Digits ∷ Letters ∷ Capitals ∷ SmallLetters ∷ Blanks ∷ []) c.loop-kind.kind-index c.args.text.now _ _ c.loop-kind-test.true c.run_words.ensures c.in_default.ensures) ∙ c.loop-kind.invariant
 
 pub returns : goal.returns
 returns c =

@@ -5,4 +5,4 @@ use Rattle.console.proofs.rows.add_made.Goals as goal
 
 pub returns : goal.returns
 returns c =
-    three_added _ _ _ _ (9 ∷ []) (escaped c.args.text.now) (10 ∷ []) c.in-ok-push.ensures.items c.in-ok-add-text.ensures c.in-ok-push-2.ensures.items
+    three_added _ _ _ _ (9 ∷ []) (escaped c.args.text.now) (10 ∷ []) c.in_ok-push.ensures.items c.in_ok-add_text.ensures c.in_ok-push-2.ensures.items

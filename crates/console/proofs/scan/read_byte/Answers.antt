@@ -6,10 +6,10 @@ pub returns-then-byte-eq92 : goal.returns-then-byte-eq92
 unfolding read_byte
 returns-then-byte-eq92 c = search rules
 
-pub returns-then-is-plain : goal.returns-then-is-plain
+pub returns-then-is_plain : goal.returns-then-is_plain
 unfolding read_byte
-returns-then-is-plain c = search rules
+returns-then-is_plain c = search rules
 
-pub returns-else-is-plain : goal.returns-else-is-plain
+pub returns-else-is_plain : goal.returns-else-is_plain
 unfolding read_byte
-returns-else-is-plain c = search rules
+returns-else-is_plain c = search rules
