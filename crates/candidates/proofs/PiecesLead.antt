@@ -1,11 +1,11 @@
 -- Going through the examples one by one finds where pieces lead from a state.
-use Rattle.std.proofs.Common.{◌≡◌, ℕ, zero, suc, ◌+◌, ◌<◌, Bool, true, false, ◌&&◌, List, length, get_or, set, Some, None, Option, sym, refl, ap, ◌∙◌, subst, ap₂, ⊎_elim, add-one, arith}
+use Rattle.std.proofs.Common.{◌≡◌, ℕ, zero, suc, ◌+◌, ◌<◌, Bool, true, false, List, length, get_or, set, Some, None, sym, refl, ap, ◌∙◌, subst, ap₂, ⊎_elim, add-one, arith}
 use Rattle.std.proofs.lemmas.Bool.{and_from, cases_eq}
 use Rattle.rules.specs.Lists.{pick}
 use Rattle.rules.specs.Rules.{Made, nothing, made}
 use Rattle.rules.specs.Promises.{made_length}
 use Rattle.candidates.specs.Problem.{View, piece_goes, wanted_in, all_go, all_moved}
-use Rattle.candidates.specs.Looked.{next_by, next_position, moved_by}
+use Rattle.candidates.specs.Looked.{next_by, moved_by}
 
 -- where a position is found the piece goes, and it is behind the piece; where none is found it does not
 next_some : (d : Made) (w : List ℕ) (j at : ℕ) → next_by d w j ≡ Some at → (piece_goes d w j ≡ true) × (at ≡ j + made_length d)

@@ -1,5 +1,5 @@
 -- The test that two lists of numbers are the same decides whether they are equal.
-use Rattle.std.proofs.Common.{◌≡◌, ℕ, Bool, true, List, [], ◌∷◌, Decides, refl, subst}
+use Rattle.std.proofs.Common.{◌≡◌, ℕ, true, List, Decides, subst}
 use Rattle.rules.specs.Lists.{same}
 use Rattle.rules.proofs.Tests.{same_eq, same_itself}
 

@@ -1,5 +1,5 @@
 -- The candidate parts at a state, in the order of their spelling: literals, then cuts by two rows. Assumes nothing: these are definitions.
-use Rattle.std.specs.Prelude.{◌≡◌, ℕ, ◌+◌, ◌-◌, ◌*◌, ◌/◌, ◌%◌, ◌<◌, Bool, true, false, ◌⊎◌, List, [], ◌∷◌, length, take, drop, nat_lt, slice_index}
+use Rattle.std.specs.Prelude.{◌≡◌, ℕ, ◌+◌, ◌-◌, ◌*◌, ◌/◌, ◌%◌, ◌<◌, true, false, ◌⊎◌, List, [], ◌∷◌, length, take, drop, nat_lt, slice_index}
 use Rattle.rules.specs.Lists.{pick, earlier}
 use Rattle.rules.specs.Rules.{Part, bytes, cut}
 use Rattle.rules.specs.Order.{part_spelled}

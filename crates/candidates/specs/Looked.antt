@@ -1,6 +1,6 @@
 -- What a look at a candidate answers. Assumes nothing: these are definitions.
-use Rattle.std.specs.Prelude.{ℕ, zero, suc, ◌+◌, ◌-◌, ◌*◌, ◌/◌, ◌%◌, ◌<◌, ◌≤◌, Bool, true, false, ◌&&◌, eqb, ltb, leb, List, [], ◌∷◌, length, get_or, take, drop, set, Some, None, Option}
-use Rattle.rules.specs.Lists.{pick, same}
+use Rattle.std.specs.Prelude.{ℕ, ◌+◌, ◌*◌, ◌<◌, ◌≤◌, List, length, Some, None, Option}
+use Rattle.rules.specs.Lists.{pick}
 use Rattle.rules.specs.Rules.{Made, nothing, made}
 use Rattle.candidates.specs.Problem.{View, piece_goes, cut_piece, cut_weighs, all_go, all_moved, candidate_piece, candidate_weight}
 use Rattle.candidates.specs.declared.candidate.Candidate.{Candidate}

@@ -1,5 +1,5 @@
 -- A problem in memory: some examples, the rows of their places and the guide; and what a look at a candidate says. Assumes nothing: these are definitions.
-use Rattle.std.specs.Prelude.{ℕ, zero, suc, ◌+◌, ◌-◌, ◌*◌, ◌/◌, ◌%◌, min, max, Bool, true, false, cond, ◌&&◌, List, [], ◌∷◌, length, take, drop, ◌==◌, nat_le, nat_lt, slice_index, slice_range, slice_set}
+use Rattle.std.specs.Prelude.{ℕ, zero, suc, ◌+◌, ◌-◌, ◌*◌, ◌/◌, ◌%◌, min, max, Bool, true, false, ◌&&◌, List, length, take, drop, ◌==◌, nat_le, nat_lt, slice_index, slice_range, slice_set}
 use Rattle.rules.specs.Lists.{pick, same}
 use Rattle.rules.specs.Rules.{Made, nothing, made}
 use Rattle.rules.specs.Promises.{made_length}

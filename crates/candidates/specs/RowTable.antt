@@ -1,5 +1,5 @@
 -- A table of rows in memory: how a row is laid down, and how the table is filled. Assumes nothing: these are definitions.
-use Rattle.std.specs.Prelude.{ℕ, zero, suc, ◌+◌, ◌-◌, ◌*◌, Bool, true, false, ◌&&◌, List, [], ◌∷◌, ◌++◌, length, take, drop, ◌==◌, nat_lt, slice_index}
+use Rattle.std.specs.Prelude.{ℕ, zero, suc, ◌+◌, ◌-◌, ◌*◌, Bool, List, [], ◌∷◌, ◌++◌, take, drop, ◌==◌, nat_lt, slice_index}
 use Rattle.rules.specs.Lists.{pick, same}
 use Rattle.rules.specs.Places.{Place, from_first, from_last, nth_of}
 use Rattle.rules.specs.Rules.{place_cost}

@@ -1,5 +1,5 @@
 -- Places by where they lie in the given texts, and what makes a table of them right. Assumes nothing: these are definitions.
-use Rattle.std.specs.Prelude.{◌≡◌, ℕ, ◌<◌, ◌≤◌, Bool, true, false, not, ◌&&◌, ◌⊎◌, List, [], ◌∷◌, length, nat_le, nat_lt, slice_index_or}
+use Rattle.std.specs.Prelude.{◌≡◌, ℕ, ◌<◌, Bool, true, false, not, ◌&&◌, ◌⊎◌, List, [], ◌∷◌, length, nat_le, nat_lt, slice_index_or}
 use Rattle.rules.specs.Lists.{every, each, none_of, earlier}
 use Rattle.rules.specs.Places.{Place, spot}
 use Rattle.rules.specs.Rules.{place_cost, a_place}

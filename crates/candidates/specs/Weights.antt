@@ -1,5 +1,5 @@
 -- Cost, number of parts and spelling as one order: what a rule weighs. Assumes nothing: these are definitions.
-use Rattle.std.specs.Prelude.{ℕ, ◌+◌, ◌*◌, List, [], ◌∷◌, nat_lt}
+use Rattle.std.specs.Prelude.{ℕ, ◌+◌, ◌*◌, [], ◌∷◌, nat_lt}
 use Rattle.rules.specs.Lists.{pick}
 use Rattle.rules.specs.Rules.{Part, Rule, part_cost}
 

@@ -7,39 +7,40 @@ use Rattle.candidates.proofs.guide.lay_guide.Goals as goal
 
 pub loop-j-init : goal.loop-j-init
 loop-j-init c =
-    (omega arith, laid_starts c.args.costs.now c.args.given.now c.args.wanted.now c.put-column.new.out c.args.out.now (omega arith) c.put-column.ensures)
+    (omega arith, laid_starts c.args.costs.now c.args.given.now c.args.wanted.now c.put_column.new.out c.args.out.now (omega arith) c.put_column.ensures)
 
 pub column-column-requires : goal.column-column-requires
 column-column-requires c =
     let j : ℕ = c.loop-j.j - 1 in
-    let room : 9 * length c.args.wanted.now + 9 ≤ length c.put-column.new.out = omega arith in
+    let room : 9 * length c.args.wanted.now + 9 ≤ length c.put_column.new.out = omega arith in
     let below : j < length c.args.wanted.now = omega arith in
     let top : c.loop-j.j ≡ suc j = omega arith in
-    let so = subst (λ z. LaidSoFar c.args.costs.now c.args.given.now c.args.wanted.now c.put-column.new.out z c.loop-j.out) top c.loop-j.invariant.1 in
+    let so = subst (λ z. LaidSoFar c.args.costs.now c.args.given.now c.args.wanted.now c.put_column.new.out z c.loop-j.out) top c.loop-j.invariant.1 in
     let t = length-take (length c.args.wanted.now - j) (drop j c.args.wanted.now) in
-    let d = length-drop j c.args.wanted.now in (
-      omega arith,
-      omega arith,
-      c.requires.3,
-      laid_enough c.args.costs.now c.args.given.now c.args.wanted.now c.put-column.new.out room j c.loop-j.out below so,
-      laid_far c.args.costs.now c.args.given.now c.args.wanted.now c.put-column.new.out room j c.loop-j.out below so,
-    )
+    let d = length-drop j c.args.wanted.now in
+    record {
+      wanted_len_bound = omega arith;
+      given_len_bound = omega arith;
+      none_above = c.requires.none_above;
+      behind_len = laid_enough c.args.costs.now c.args.given.now c.args.wanted.now c.put_column.new.out room j c.loop-j.out below so;
+      none_above_2 = laid_far c.args.costs.now c.args.given.now c.args.wanted.now c.put_column.new.out room j c.loop-j.out below so;
+    }
 
 pub loop-j-preserved : goal.loop-j-preserved
 loop-j-preserved c =
     let j : ℕ = c.loop-j.j - 1 in
-    let room : 9 * length c.args.wanted.now + 9 ≤ length c.put-column.new.out = omega arith in
+    let room : 9 * length c.args.wanted.now + 9 ≤ length c.put_column.new.out = omega arith in
     let below : j < length c.args.wanted.now = omega arith in
     let top : c.loop-j.j ≡ suc j = omega arith in
-    let so = subst (λ z. LaidSoFar c.args.costs.now c.args.given.now c.args.wanted.now c.put-column.new.out z c.loop-j.out) top c.loop-j.invariant.1 in (
+    let so = subst (λ z. LaidSoFar c.args.costs.now c.args.given.now c.args.wanted.now c.put_column.new.out z c.loop-j.out) top c.loop-j.invariant.1 in (
       omega arith,
-      laid_goes_on c.args.costs.now c.args.given.now c.args.wanted.now c.put-column.new.out room j c.loop-j.out below so c.put-column-in-loop-j.new.out
-          (c.put-column-in-loop-j.ensures ∙ ap (λ l. with_column c.loop-j.out (9 * j) l) c.column-column.ensures
+      laid_goes_on c.args.costs.now c.args.given.now c.args.wanted.now c.put_column.new.out room j c.loop-j.out below so c.put_column-in-loop-j.new.out
+          (c.put_column-in-loop-j.ensures ∙ ap (λ l. with_column c.loop-j.out (9 * j) l) c.column-column.ensures
           ∙ ap (λ l. with_column c.loop-j.out (9 * j) (column_in (steps c.args.costs.now c.args.given.now l) (take (9 * length c.args.wanted.now + 9 - (9 * j + 9)) (drop (9 * j + 9) c.loop-j.out)))) (take_rest c.args.wanted.now j)),
     )
 
 pub returns : goal.returns
 returns c =
     let done : c.loop-j.j ≡ 0 = omega arith in
-    laid_ends c.args.costs.now c.args.given.now c.args.wanted.now c.put-column.new.out c.args.out.now c.loop-j.out (omega arith) c.put-column.ensures
-    (subst (λ z. LaidSoFar c.args.costs.now c.args.given.now c.args.wanted.now c.put-column.new.out z c.loop-j.out) done c.loop-j.invariant.1)
+    laid_ends c.args.costs.now c.args.given.now c.args.wanted.now c.put_column.new.out c.args.out.now c.loop-j.out (omega arith) c.put_column.ensures
+    (subst (λ z. LaidSoFar c.args.costs.now c.args.given.now c.args.wanted.now c.put_column.new.out z c.loop-j.out) done c.loop-j.invariant.1)

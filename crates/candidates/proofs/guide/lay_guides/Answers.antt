@@ -9,12 +9,12 @@ pub loop-e-init : goal.loop-e-init
 unfolding guides_laid
 loop-e-init c = refl
 
-pub lay-in-place-requires : goal.lay-in-place-requires
-lay-in-place-requires c =
-    let few = short_read c.args.examples.now c.loop-e.e _ (omega arith) c.requires.3 in
-    (omega arith, omega arith, few.0, few.1, c.requires.1 c.loop-e.e (omega arith))
+pub lay_in_place-requires : goal.lay_in_place-requires
+lay_in_place-requires c =
+    let few = short_read c.args.examples.now c.loop-e.e _ (omega arith) c.requires.examples_value in
+    record { out_len = omega arith; e_bound = omega arith; given_len_bound = few.0; wanted_len_bound = few.1; none_above = c.requires.by_index c.loop-e.e (omega arith) }
 
 pub loop-e-preserved : goal.loop-e-preserved
 loop-e-preserved c =
-    guides_goes_on c.args.costs.now c.args.examples.now c.args.out.now c.loop-e.out c.lay-in-place.new.out c.loop-e.e _ (omega arith)
-    c.lay-in-place.ensures c.loop-e.invariant
+    guides_goes_on c.args.costs.now c.args.examples.now c.args.out.now c.loop-e.out c.lay_in_place.new.out c.loop-e.e _ (omega arith)
+    c.lay_in_place.ensures c.loop-e.invariant

@@ -5,4 +5,4 @@ use Rattle.candidates.proofs.guide.lay_in_place.Goals as goal
 
 pub returns : goal.returns
 returns c =
-    guide_put c.args.out.now c.lay-guide.new.out (columns c.args.costs.now c.args.given.now c.args.wanted.now) c.args.e c.lay-guide.ensures
+    guide_put c.args.out.now c.lay_guide.new.out (columns c.args.costs.now c.args.given.now c.args.wanted.now) c.args.e c.lay_guide.ensures

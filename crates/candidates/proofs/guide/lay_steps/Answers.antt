@@ -23,7 +23,12 @@ along-requires c =
     let h = length-drop c.loop-x.x c.args.given.now in
     let k = length-take (65 - (c.loop-x.x + 1)) (drop (c.loop-x.x + 1) c.args.costs.now) in
     let l = length-drop (c.loop-x.x + 1) c.args.costs.now in
-    (omega arith, omega arith, c.requires.3 c.loop-x.x, none_above_part 255 (65 - (c.loop-x.x + 1)) (c.loop-x.x + 1) c.args.costs.now c.requires.3)
+    record {
+      wanted_in_bounds = omega arith;
+      given_in_bounds = omega arith;
+      from_bound = c.requires.none_above c.loop-x.x;
+      none_above = none_above_part 255 (65 - (c.loop-x.x + 1)) (c.loop-x.x + 1) c.args.costs.now c.requires.none_above;
+    }
 
 pub loop-x-preserved : goal.loop-x-preserved
 loop-x-preserved c =
@@ -39,4 +44,4 @@ loop-x-preserved c =
 pub returns : goal.returns
 returns c =
     let laid = cuts_end c.args.costs.now c.args.given.now c.args.wanted.now c.loop-x.x c.loop-x.room (omega arith) c.loop-x.invariant in
-    record { laid = laid; small = subst (λ l. NoneAbove 4177 l) (sym laid) (steps_small c.args.costs.now c.args.given.now c.args.wanted.now c.requires.1) }
+    record { laid = laid; small = subst (λ l. NoneAbove 4177 l) (sym laid) (steps_small c.args.costs.now c.args.given.now c.args.wanted.now c.requires.wanted_len_bound) }

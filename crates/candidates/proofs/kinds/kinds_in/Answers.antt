@@ -1,7 +1,7 @@
 use Rattle.std.proofs.Common.{sym, refl, arith}
 use Rattle.candidates.proofs.KindsCollected.{collected_none, collected_more, collected_absent, collected_none_there, collected_all}
 use Rattle.candidates.proofs.kinds.kinds_in.Goals as goal
-use Rattle.candidates.proofs.kinds.kinds_in.Goals.{in-Some+then-stands-in, in-Some+else-stands-in, in-default}
+use Rattle.candidates.proofs.kinds.kinds_in.Goals.{in-Some+then-stands_in, in-Some+else-stands_in, in_default}
 
 pub loop-number-init : goal.loop-number-init
 loop-number-init c = collected_none _ _ refl
@@ -9,9 +9,9 @@ loop-number-init c = collected_none _ _ refl
 pub loop-number-preserved : goal.loop-number-preserved
 loop-number-preserved c =
     elim c.match-numbered.branch [
-      | in-Some+then-stands-in w ↦ collected_more _ _ _ _ c.loop-number.invariant _ _ _ c.loop-number-test.true w.in-Some.ensures.0 w.in-Some.ensures.1 (sym w.if-stands-in.ensures) w.list-is w.count-is
-      | in-Some+else-stands-in w ↦ collected_absent _ _ _ _ c.loop-number.invariant _ _ _ w.in-Some.ensures.0 w.in-Some.ensures.1 (sym w.if-stands-in.ensures) w.list-is w.count-is
-      | in-default w ↦ collected_none_there _ _ _ _ c.loop-number.invariant _ _ w.in-default.ensures w.list-is w.count-is
+      | in-Some+then-stands_in w ↦ collected_more _ _ _ _ c.loop-number.invariant _ _ _ c.loop-number-test.true w.in-Some.ensures.0 w.in-Some.ensures.1 (sym w.if-stands_in.ensures) w.list-is w.count-is
+      | in-Some+else-stands_in w ↦ collected_absent _ _ _ _ c.loop-number.invariant _ _ _ w.in-Some.ensures.0 w.in-Some.ensures.1 (sym w.if-stands_in.ensures) w.list-is w.count-is
+      | in_default w ↦ collected_none_there _ _ _ _ c.loop-number.invariant _ _ w.in_default.ensures w.list-is w.count-is
     ]
 
 pub returns : goal.returns

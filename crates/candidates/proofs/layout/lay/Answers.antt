@@ -7,24 +7,25 @@ use Rattle.candidates.proofs.LeastCosts.{all_costs_small}
 use Rattle.candidates.proofs.ProblemWritten.{guide_room, second_there, counts_long, problem_written}
 use Rattle.candidates.proofs.layout.lay.Goals as goal
 
-pub lay-guides-requires : goal.lay-guides-requires
-lay-guides-requires c = (
-  guide_room c.args.numbers.now c.lay-texts.new.out c.requires.size c.lay-texts.auto.out c.lay-rows-rows.new.numbers c.lay-rows-rows.auto.numbers,
-  subst (λ css. (e : ℕ) → e < 8 → NoneAbove 255 (get_or css e [])) (sym c.all-costs-costs.ensures) (all_costs_small _ c.lay-rows-rows.result),
-  c.requires.few,
-  c.requires.short,
-)
+pub lay_guides-requires : goal.lay_guides-requires
+lay_guides-requires c =
+    record {
+      out_len = guide_room c.args.numbers.now c.lay_texts.new.out c.requires.size c.lay_texts.auto.out c.lay_rows-rows.new.numbers c.lay_rows-rows.auto.numbers;
+      by_index = subst (λ css. (e : ℕ) → e < 8 → NoneAbove 255 (get_or css e [])) (sym c.all_costs-costs.ensures) (all_costs_small _ c.lay_rows-rows.result);
+      examples_len_bound = c.requires.few;
+      examples_value = c.requires.short;
+    }
 
 pub bounds-numbers-1 : goal.bounds-numbers-1
 bounds-numbers-1 c =
-    second_there c.args.numbers.now c.lay-texts.new.out c.requires.size c.lay-texts.auto.out c.lay-rows-rows.new.numbers c.lay-rows-rows.auto.numbers c.lay-guides.new.out c.lay-guides.auto.out _ 0
+    second_there c.args.numbers.now c.lay_texts.new.out c.requires.size c.lay_texts.auto.out c.lay_rows-rows.new.numbers c.lay_rows-rows.auto.numbers c.lay_guides.new.out c.lay_guides.auto.out _ 0
 
-pub shape-of-numbers : goal.shape-of-numbers
-shape-of-numbers c =
-    counts_long c.args.numbers.now c.lay-texts.new.out c.requires.size c.lay-texts.auto.out c.lay-rows-rows.new.numbers c.lay-rows-rows.auto.numbers c.lay-guides.new.out c.lay-guides.auto.out _ _
+pub shape_of-numbers : goal.shape_of-numbers
+shape_of-numbers c =
+    counts_long c.args.numbers.now c.lay_texts.new.out c.requires.size c.lay_texts.auto.out c.lay_rows-rows.new.numbers c.lay_rows-rows.auto.numbers c.lay_guides.new.out c.lay_guides.auto.out _ _
 
 pub returns : goal.returns
 returns c =
-    problem_written c.args.numbers.now c.lay-texts.new.out c.requires.size c.lay-texts.auto.out c.lay-rows-rows.new.numbers c.lay-rows-rows.auto.numbers c.lay-guides.new.out c.lay-guides.auto.out
-    _ c.lay-rows-rows.result (the_examples c.args.examples.now) (the_asked c.args.asked) (sym (each_length the_example c.args.examples.now)) c.all-costs-costs.result
-    c.lay-texts.ensures c.lay-rows-rows.ensures.table c.all-costs-costs.ensures c.lay-guides.ensures
+    problem_written c.args.numbers.now c.lay_texts.new.out c.requires.size c.lay_texts.auto.out c.lay_rows-rows.new.numbers c.lay_rows-rows.auto.numbers c.lay_guides.new.out c.lay_guides.auto.out
+    _ c.lay_rows-rows.result (the_examples c.args.examples.now) (the_asked c.args.asked) (sym (each_length the_example c.args.examples.now)) c.all_costs-costs.result
+    c.lay_texts.ensures c.lay_rows-rows.ensures.table c.all_costs-costs.ensures c.lay_guides.ensures

@@ -6,12 +6,12 @@ use Rattle.candidates.proofs.look.next_position.Goals as goal
 pub returns-then-from-wanted : goal.returns-then-from-wanted
 returns-then-from-wanted c = no_room _ _ _ (omega arith)
 
-pub returns-then-is-same : goal.returns-then-is-same
-returns-then-is-same c = stands _ _ _ _ refl c.if-to-wanted.true (sym c.is-same.ensures ∙ c.if-is-same.true)
+pub returns-then-is_same : goal.returns-then-is_same
+returns-then-is_same c = stands _ _ _ _ refl c.if-to-wanted.true (sym c.is_same.ensures ∙ c.if-is_same.true)
 
 pub returns-else-to-wanted : goal.returns-else-to-wanted
 returns-else-to-wanted c =
     elim c.else-to-wanted.branch [
-      | goal.else-to-wanted-via-then-to-wanted+else-is-same w ↦ differs _ _ _ _ refl w.if-to-wanted.true (sym w.is-same.ensures ∙ w.if-is-same.false)
+      | goal.else-to-wanted-via-then-to-wanted+else-is_same w ↦ differs _ _ _ _ refl w.if-to-wanted.true (sym w.is_same.ensures ∙ w.if-is_same.false)
       | goal.else-to-wanted-via-else-to-wanted w ↦ no_room _ _ _ w.if-to-wanted.false
     ]

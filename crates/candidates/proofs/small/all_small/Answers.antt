@@ -6,11 +6,11 @@ use Rattle.candidates.proofs.small.all_small.Goals as goal
 pub loop-example-init : goal.loop-example-init
 loop-example-init c = undecided_first _
 
-pub returns-then-not-is-small : goal.returns-then-not-is-small
-returns-then-not-is-small c = decided _ _ _ c.loop-example.invariant c.loop-example-test.true (sym c.if-not-is-small.ensures)
+pub returns-then-not-is_small : goal.returns-then-not-is_small
+returns-then-not-is_small c = decided _ _ _ c.loop-example.invariant c.loop-example-test.true (sym c.if-not-is_small.ensures)
 
 pub loop-example-preserved : goal.loop-example-preserved
-loop-example-preserved c = undecided_more _ _ _ c.loop-example.invariant c.loop-example-test.true (sym c.if-not-is-small.ensures)
+loop-example-preserved c = undecided_more _ _ _ c.loop-example.invariant c.loop-example-test.true (sym c.if-not-is_small.ensures)
 
 pub returns : goal.returns
 returns c = undecided_all _ _ c.loop-example.invariant c.loop-example-test.false

@@ -11,7 +11,7 @@ loop-i-init c = bytes_none c.args.literal.now c.put.new.out (c.args.at + 2)
 pub loop-i-preserved : goal.loop-i-preserved
 loop-i-preserved c =
     let room : c.args.at + 2 + length c.args.literal.now ≤ length c.put.new.out = omega (arith, c.requires.room, c.requires.few) in
-    bytes_more c.args.literal.now c.put.new.out (c.args.at + 2) _ c.loop-i.i _ _ _ room c.loop-i.invariant c.loop-i-test.true (get_or_default c.args.literal.now c.loop-i.i _ _ c.loop-i-test.true) (omega arith) c.as-byte.ensures
+    bytes_more c.args.literal.now c.put.new.out (c.args.at + 2) _ c.loop-i.i _ _ _ room c.loop-i.invariant c.loop-i-test.true (get_or_default c.args.literal.now c.loop-i.i _ _ c.loop-i-test.true) (omega arith) c.as_byte.ensures
 
 pub returns : goal.returns
 returns c =

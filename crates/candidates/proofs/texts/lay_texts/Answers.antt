@@ -9,10 +9,10 @@ pub loop-e-init : goal.loop-e-init
 unfolding texts_laid
 loop-e-init c = refl
 
-pub put-example-requires : goal.put-example-requires
-put-example-requires c =
-    let few = short_read c.args.examples.now c.loop-e.e _ (omega arith) c.requires.2 in
-    (omega arith, omega arith, few.0, few.1)
+pub put_example-requires : goal.put_example-requires
+put_example-requires c =
+    let few = short_read c.args.examples.now c.loop-e.e _ (omega arith) c.requires.examples_value in
+    record { out_len = omega arith; e_bound = omega arith; given_len_bound = few.0; wanted_len_bound = few.1 }
 
 pub loop-e-preserved : goal.loop-e-preserved
-loop-e-preserved c = texts_goes_on c.args.examples.now c.args.out.now c.loop-e.out c.put-example.new.out c.loop-e.e _ (omega arith) c.put-example.ensures c.loop-e.invariant
+loop-e-preserved c = texts_goes_on c.args.examples.now c.args.out.now c.loop-e.out c.put_example.new.out c.loop-e.e _ (omega arith) c.put_example.ensures c.loop-e.invariant

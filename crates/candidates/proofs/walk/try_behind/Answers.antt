@@ -7,7 +7,7 @@ pub loop-right-init : goal.loop-right-init
 loop-right-init c = kinds_none _ _ _ _ _ _ _ refl c.requires.rows
 
 pub loop-right-preserved : goal.loop-right-preserved
-loop-right-preserved c = kinds_more _ _ _ _ _ _ _ _ _ _ _ c.loop-right.invariant c.loop-right-test.true c.try-between-count.ensures.table c.try-between-count.ensures.bound
+loop-right-preserved c = kinds_more _ _ _ _ _ _ _ _ _ _ _ c.loop-right.invariant c.loop-right-test.true c.try_between-count.ensures.table c.try_between-count.ensures.bound
 
 pub returns : goal.returns
 unfolding places_behind

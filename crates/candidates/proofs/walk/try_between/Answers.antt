@@ -7,7 +7,7 @@ pub loop-n-init : goal.loop-n-init
 loop-n-init c = lists_none _ _ _ _ _ _ refl c.requires.rows
 
 pub loop-n-preserved : goal.loop-n-preserved
-loop-n-preserved c = lists_more _ _ _ _ _ _ _ _ _ c.loop-n.invariant c.try-both-ways-count.ensures.table c.try-both-ways-count.ensures.bound
+loop-n-preserved c = lists_more _ _ _ _ _ _ _ _ _ c.loop-n.invariant c.try_both_ways-count.ensures.table c.try_both_ways-count.ensures.bound
 
 pub returns : goal.returns
 returns c = record {

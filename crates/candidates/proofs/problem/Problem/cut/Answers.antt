@@ -1,5 +1,5 @@
 -- The two numbers of a pair below n × n are below n.
-use Rattle.std.proofs.Common.{◌≡◌, ℕ, zero, suc, ◌*◌, ◌/◌, ◌%◌, ◌<◌, ◌≤◌, refl, mod-lt, div-lt_iff_lt-mul, arith}
+use Rattle.std.proofs.Common.{ℕ, zero, suc, ◌*◌, ◌/◌, ◌%◌, ◌<◌, refl, mod-lt, div-lt_iff_lt-mul, arith}
 use Rattle.candidates.proofs.problem.Problem.cut.Goals as goal
 
 some : (i n : ℕ) → i < n * n → zero < n

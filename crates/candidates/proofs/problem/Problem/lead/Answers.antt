@@ -1,8 +1,8 @@
 -- The loop has gone through as many examples as the definitions count.
-use Rattle.std.proofs.Common.{◌≡◌, sym, refl, ap, ◌∙◌, arith, length-set}
+use Rattle.std.proofs.Common.{sym, arith, length-set}
 use Rattle.candidates.specs.Looked.{pieces}
 use Rattle.candidates.specs.Viewed.{the_view}
-use Rattle.candidates.proofs.PiecesLead.{lead_none, moved_none, lead_more, lead_stops, lead_all}
+use Rattle.candidates.proofs.PiecesLead.{lead_none, moved_none, lead_more, lead_stops}
 use Rattle.candidates.proofs.problem.Problem.lead.Goals as goal
 
 pub loop-e-init : goal.loop-e-init

@@ -1,5 +1,5 @@
 -- What was found for the candidate is what a look at its number says.
-use Rattle.std.proofs.Common.{◌≡◌, ◌∙◌}
+use Rattle.std.proofs.Common.{◌∙◌}
 use Rattle.candidates.specs.Looked.{pieces}
 use Rattle.candidates.specs.Viewed.{the_view}
 use Rattle.candidates.proofs.LookSays.{look_leads, look_stops}

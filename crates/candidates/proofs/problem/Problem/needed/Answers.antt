@@ -8,6 +8,6 @@ loop-e-init c = (greatest_none (the_view c.args.self) _ c.args.parts, omega arit
 
 pub loop-e-preserved : goal.loop-e-preserved
 loop-e-preserved c = (
-  c.max-most.ensures ∙ greatest_more (the_view c.args.self) c.args.state.now c.args.parts c.loop-e.e _ _ c.loop-e.invariant.0 c.guide-of.ensures.value,
+  c.max-most.ensures ∙ greatest_more (the_view c.args.self) c.args.state.now c.args.parts c.loop-e.e _ _ c.loop-e.invariant.0 c.guide_of.ensures.value,
   omega arith,
 )
