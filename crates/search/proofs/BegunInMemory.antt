@@ -1,8 +1,7 @@
 -- What a search that begins leaves in memory, put together from what its steps leave; and that it begins there.
-use Rattle.std.proofs.Common.{◌≡◌, ℕ, ◌+◌, ◌-◌, ◌≤◌, true, List, [], ◌∷◌, ◌++◌, length, take, drop, sym, refl, ap, ◌∙◌, subst, ap₂, arith, length-drop}
+use Rattle.std.proofs.Common.{◌≡◌, ℕ, ◌+◌, ◌-◌, true, List, [], ◌∷◌, ◌++◌, length, take, drop, sym, ap, ◌∙◌, subst, ap₂, arith, length-drop}
 use borrow.Rule.Slice.PartMut.{put_mid}
 use Rattle.std.proofs.lemmas.List.{length-take-le, take_at, drop_at}
-use Rattle.rules.specs.Answers.{written}
 use Rattle.rules.specs.Examples.{Example}
 use Rattle.rules.proofs.WrittenBytes.{copied_is, length_written}
 use Rattle.candidates.specs.LaidProblem.{laid_problem}

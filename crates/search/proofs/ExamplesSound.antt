@@ -29,7 +29,7 @@ module _ (x : Example) (rest : List Example) (asked : List (List ℕ)) (v : View
   stands : (s : List ℕ) (p : Part) → a_part p ≡ true → goes (x ∷ rest) p s ≡ true → (i : ℕ) × StandsFor (guided_by (x ∷ rest) v) s i p
   stands s p a g =
       let c = stood_for x rest asked v laid s p a g in
-      (c.0, record { there = c.1.below; goes = c.1.goes_too; leads = c.1.same_Move; as_good = c.1.no_later })
+      (c.0, record { there = c.1.below; goes = c.1.goes_too; leads = c.1.same_move; as_good = c.1.no_later })
 
   pub examples_sound : Sound (guided_by (x ∷ rest) v) (fit (x ∷ rest)) (64 + v.rows * v.rows)
   examples_sound =

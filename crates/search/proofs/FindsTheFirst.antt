@@ -1,8 +1,7 @@
 -- Begun on examples and advanced, a search in memory ends right; what a loop over its pieces needs to know.
-use Rattle.std.proofs.Common.{◌≡◌, ℕ, zero, suc, ◌+◌, ◌*◌, ◌<◌, true, ◌⊎◌, List, [], length, sym, refl, ap, ◌∙◌, subst, ap₂, inl, inr, arith}
+use Rattle.std.proofs.Common.{◌≡◌, ℕ, suc, ◌*◌, ◌<◌, true, ◌⊎◌, List, [], length, sym, refl, ap, ◌∙◌, subst, ap₂, inl, inr, arith}
 use Rattle.rules.specs.Examples.{Example}
 use Rattle.rules.specs.Order.{rule_spelled}
-use Rattle.candidates.specs.Problem.{View}
 use Rattle.candidates.specs.Rows.{small_examples}
 use Rattle.search.specs.Begun.{begun_in}
 use Rattle.search.specs.ByExamples.{held_begun, rule_in}
@@ -17,7 +16,7 @@ use Rattle.search.proofs.FoundSpelled.{held_spelled}
 use Rattle.search.proofs.PiecesEnd.{pieces_end, never_wrong_in}
 use Rattle.search.proofs.PiecesFall.{left_in, pieces_fall}
 use Rattle.search.proofs.StatesKeepLength.{loaded_shaped, steps_shaped}
-use Rattle.search.proofs.StoredAndLoaded.{Pieces, pieces, stored_loaded}
+use Rattle.search.proofs.StoredAndLoaded.{pieces, stored_loaded}
 
 pub finds_the_first : FindsTheFirst
 finds_the_first es m s h = pieces_end es [] (begun_in es m) (begins_there es m s h)

@@ -1,12 +1,12 @@
 -- A search that begins in memory ends after some pieces, with the first rule or with none where there is none.
-use Rattle.std.proofs.Common.{◌≡◌, ℕ, ◌+◌, ◌-◌, ◌*◌, ◌≤◌, ◌⊎◌, List, length, sym, refl, ap, ◌∙◌, subst, inl, inr, arith}
+use Rattle.std.proofs.Common.{◌≡◌, ℕ, ◌+◌, ◌-◌, ◌*◌, ◌≤◌, ◌⊎◌, List, sym, ap, ◌∙◌, subst, inl, inr, arith}
 use Rattle.rules.specs.Examples.{Example}
 use Rattle.candidates.specs.Problem.{View}
 use Rattle.search.specs.Steps.{Held, held_step, held_steps}
 use Rattle.search.specs.ByExamples.{held_begun}
 use Rattle.search.specs.HeldPromises.{EndedFor}
-use Rattle.search.specs.Memory.{memory_size, problem_in, loaded, advances}
-use Rattle.search.specs.MemoryPromises.{EndedIn, Begins, PiecesEnd, NeverWrongIn}
+use Rattle.search.specs.Memory.{problem_in, loaded, advances}
+use Rattle.search.specs.MemoryPromises.{PiecesEnd, NeverWrongIn}
 use Rattle.search.specs.declared.status.Status.TheVariants.{Going}
 use Rattle.search.proofs.HeldRight.{held_ends, held_never_wrong, held_stays}
 use Rattle.search.proofs.StepsInTurn.{steps_add, steps_stay}

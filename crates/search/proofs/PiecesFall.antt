@@ -1,5 +1,5 @@
 -- Each piece of a search that goes on leaves less to do, so a loop over pieces ends.
-use Rattle.std.proofs.Common.{◌≡◌, ℕ, zero, suc, ◌+◌, ◌*◌, ◌<◌, ◌≤◌, true, false, ◌⊎◌, List, [], ◌∷◌, length, sym, refl, ap, ◌∙◌, subst, ap₂, inl, inr, arith}
+use Rattle.std.proofs.Common.{◌≡◌, ℕ, zero, suc, ◌+◌, ◌*◌, ◌<◌, ◌≤◌, true, ◌⊎◌, List, [], ◌∷◌, length, sym, refl, ap, ◌∙◌, subst, ap₂, inl, inr, arith}
 use Rattle.rules.specs.Lists.{pick}
 use Rattle.rules.specs.Examples.{Example}
 use Rattle.candidates.specs.Moves.{fit, start}
@@ -22,7 +22,7 @@ use Rattle.search.proofs.HeldRight.{held_stays}
 use Rattle.search.proofs.MachineEnds.{to_do, micro_falls}
 use Rattle.search.proofs.MachineRight.{RightMachine, begun_right, micro_right, runs_right}
 use Rattle.search.proofs.StepsInTurn.{steps_add, steps_stay}
-use Rattle.search.proofs.StoredAndLoaded.{Pieces, pieces}
+use Rattle.search.proofs.StoredAndLoaded.{pieces}
 
 module _ {S : Type 0} (g : Guided S) (fits : S → _) (most : ℕ) (sound : Sound g fits most) where
   step_no_more : (x : Machine S) → RightMachine g fits x → to_do g most (micro g x) ≤ to_do g most x

@@ -1,25 +1,23 @@
 -- Every state in a frame has nine numbers, and steps keep it so.
-use Rattle.std.proofs.Common.{◌≡◌, ℕ, zero, suc, ◌+◌, ◌-◌, ◌*◌, ◌<◌, ◌≤◌, Bool, true, false, ◌&&◌, eqb, ltb, leb, List, [], ◌∷◌, length, get_or, take, drop, set, Some, None, Option, sym, refl, ap, ◌∙◌, subst, arith, length-drop, length-set}
+use Rattle.std.proofs.Common.{◌≡◌, ℕ, zero, suc, ◌+◌, ◌-◌, ◌*◌, ◌<◌, ◌≤◌, true, eqb, ltb, leb, List, [], ◌∷◌, length, get_or, drop, set, Some, None, Option, refl, ap, ◌∙◌, arith, length-drop, length-set}
 use Rattle.std.proofs.lemmas.List.{length-take-le}
 use Rattle.std.proofs.lemmas.Bool.{and_parts, and_from, eqb-true, eq-eqb}
-use Rattle.rules.specs.Lists.{pick, every}
 use Rattle.rules.specs.Rules.{Made}
 use Rattle.rules.proofs.Tests.{pick_both}
 use Rattle.candidates.specs.Weights.{far}
 use Rattle.candidates.specs.Problem.{View, all_go, all_moved, all_at_end, candidate_piece, candidate_weight, count_in, greatest}
-use Rattle.candidates.specs.Looked.{looked}
 use Rattle.candidates.specs.Moves.{start}
 use Rattle.candidates.specs.declared.look.Move.{Move}
 use Rattle.search.specs.Round.{Look, over, ends, enters}
 use Rattle.search.specs.Machine.{limit}
-use Rattle.search.specs.Steps.{Held, held, need_in, weigh_in, look_of, look_in, entered_at, moved_on, no_frame, round_with, after_look, frame_step, going_step, step_of, held_step, held_steps}
+use Rattle.search.specs.Steps.{Held, held, need_in, weigh_in, look_of, look_in, entered_at, moved_on, no_frame, round_with, after_look, going_step, step_of, held_step, held_steps}
 use Rattle.search.specs.ByExamples.{held_begun}
-use Rattle.search.specs.Memory.{frame_from, frames_from, loaded}
+use Rattle.search.specs.Memory.{frames_from, loaded}
 use Rattle.search.specs.declared.frame.Frame.{Frame}
 use Rattle.search.specs.declared.status.Status.{Status}
 use Rattle.search.specs.declared.status.Status.TheVariants.{Going, Found, NoRule}
 use Rattle.search.proofs.FramesInMemory.{nines}
-use Rattle.search.proofs.HeldSmall.{Small, step_small, begun_small, steps_small}
+use Rattle.search.proofs.HeldSmall.{Small, step_small, begun_small}
 
 pub moved_long : (piece : ℕ → Made) (m : ℕ) (s : List ℕ) → length (all_moved piece m s) ≡ length s
 unfolding all_moved

@@ -1,5 +1,5 @@
 -- Steps are taken one by one, and so many and then more are all of them.
-use Rattle.std.proofs.Common.{◌≡◌, ℕ, zero, suc, ◌+◌, ◌⊎◌, sym, refl, ap, ◌∙◌, zero-add, add-one, arith}
+use Rattle.std.proofs.Common.{◌≡◌, ℕ, zero, suc, ◌+◌, sym, refl, ap, ◌∙◌, zero-add, add-one, arith}
 use Rattle.candidates.specs.Problem.{View}
 use Rattle.search.specs.Steps.{Held, held_step, held_steps}
 

@@ -1,15 +1,14 @@
 -- What is stored is loaded again, and the problem behind it stays as it is.
-use Rattle.std.proofs.Common.{◌≡◌, ℕ, zero, suc, ◌+◌, ◌*◌, ◌≤◌, min, true, List, [], ◌∷◌, ◌++◌, length, get_or, take, drop, sym, refl, ap, ◌∙◌, ap₂, arith, length-append}
+use Rattle.std.proofs.Common.{◌≡◌, ℕ, zero, suc, ◌+◌, ◌*◌, ◌≤◌, List, ◌++◌, length, take, drop, sym, refl, ap, ◌∙◌, ap₂, arith}
 use Rattle.std.proofs.lemmas.List.{drop_at}
 use Rattle.rules.specs.Lists.{flat}
 use Rattle.rules.proofs.WrittenBytes.{length_written}
 use Rattle.candidates.specs.Problem.{view_of}
-use Rattle.search.specs.Steps.{Held, held, held_steps}
-use Rattle.search.specs.Memory.{status_number, status_from, frame_numbers, frames_from, loaded, held_numbers, stored, problem_in, stepped_by, advanced, advances}
+use Rattle.search.specs.Steps.{Held, held_steps}
+use Rattle.search.specs.Memory.{status_number, status_from, frame_numbers, frames_from, loaded, held_numbers, stored, problem_in, advanced, advances}
 use Rattle.search.specs.declared.status.Status.{Status}
 use Rattle.search.specs.declared.status.Status.TheVariants.{Going, Found, NoRule}
 use Rattle.search.proofs.FramesInMemory.{frames_back, frames_long, held_same}
-use Rattle.search.proofs.HeldSmall.{Small}
 use Rattle.search.proofs.StatesKeepLength.{Shaped, loaded_shaped, steps_shaped}
 use Rattle.search.proofs.StepsInTurn.{steps_none, steps_add}
 

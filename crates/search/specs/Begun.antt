@@ -5,7 +5,6 @@ use Rattle.rules.specs.Examples.{Example}
 use Rattle.candidates.specs.LaidProblem.{laid_problem}
 use Rattle.search.specs.ByExamples.{held_begun}
 use Rattle.search.specs.Memory.{loaded, stored, problem_in}
-use Rattle.search.specs.Refusals.{refusal_of}
 use Rattle.search.specs.declared.refusal.Refusal.{Refusal}
 
 -- the problem of the examples is laid down

@@ -1,11 +1,11 @@
 -- A search in memory: 4 numbers that say how far it has come, eight frames of 11 numbers, and the numbers of the problem. Assumes nothing: these are definitions.
-use Rattle.std.specs.Prelude.{ℕ, zero, suc, ◌+◌, min, Bool, true, false, List, [], ◌∷◌, ◌++◌, length, take, drop, ◌==◌, slice_index}
+use Rattle.std.specs.Prelude.{ℕ, zero, suc, min, List, [], ◌∷◌, ◌++◌, take, drop, ◌==◌, slice_index}
 use Rattle.rules.specs.Lists.{pick, flat}
 use Rattle.rules.specs.Answers.{written}
 use Rattle.rules.specs.Rules.{Rule}
 use Rattle.candidates.specs.Problem.{View, view_of}
 use Rattle.search.specs.Steps.{Held, held, held_steps}
-use Rattle.search.specs.ByExamples.{held_begun, rule_in}
+use Rattle.search.specs.ByExamples.{rule_in}
 use Rattle.search.specs.declared.frame.Frame.{Frame}
 use Rattle.search.specs.declared.status.Status.{Status}
 use Rattle.search.specs.declared.status.Status.TheVariants.{Going, Found, NoRule}

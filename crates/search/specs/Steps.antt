@@ -1,5 +1,5 @@
 -- A step of a search over a problem in memory. Assumes nothing: these are definitions.
-use Rattle.std.specs.Prelude.{ℕ, zero, suc, ◌+◌, ◌-◌, ◌≤◌, min, Bool, true, false, List, [], ◌∷◌, length, Some, None, Option, nat_le, nat_lt, slice_index_or, slice_set}
+use Rattle.std.specs.Prelude.{ℕ, zero, suc, ◌+◌, ◌-◌, ◌≤◌, min, List, [], Some, None, Option, nat_le, nat_lt, slice_index_or, slice_set}
 use Rattle.rules.specs.Lists.{pick}
 use Rattle.candidates.specs.Weights.{far}
 use Rattle.candidates.specs.Problem.{View, count_in, all_at_end, greatest}

@@ -3,4 +3,4 @@ use Rattle.search.proofs.pieces.advance.Goals as goal
 
 pub returns : goal.returns
 unfolding advanced
-returns c = record { memory = c.advance-by.ensures.memory; status = c.advance-by.ensures.status }
+returns c = record { memory = c.advance_by.ensures.memory; status = c.advance_by.ensures.status }

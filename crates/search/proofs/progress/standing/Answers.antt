@@ -8,5 +8,5 @@ returns c = record {
   status = ap (λ (x : Held). x.status) c.load-machine.ensures;
   budget = ap (λ (x : Held). x.budget) c.load-machine.ensures;
   frames = ap (λ (x : Held). x.depth) c.load-machine.ensures;
-  rows_are = c.row-count.ensures ∙ ap (λ (v : View). v.rows) c.problem-in.ensures;
+  rows_are = c.row_count.ensures ∙ ap (λ (v : View). v.rows) c.problem_in.ensures;
 }

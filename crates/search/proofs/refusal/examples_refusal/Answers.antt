@@ -5,12 +5,12 @@ use Rattle.search.proofs.refusal.examples_refusal.Goals as goal
 
 pub returns-then-examples-gt8 : goal.returns-then-examples-gt8
 returns-then-examples-gt8 c = record {
-  value = many_told _ _ (each_length the_example c.args.examples.now) c.if-are-small.ensures c.if-examples-gt8.true;
+  value = many_told _ _ (each_length the_example c.args.examples.now) c.if-are_small.ensures c.if-examples-gt8.true;
   right = λ e. absurd (some_is_none _ e);
 }
 
 pub returns-else-examples-gt8 : goal.returns-else-examples-gt8
 returns-else-examples-gt8 c = record {
-  value = long_told _ _ (each_length the_example c.args.examples.now) c.if-are-small.ensures c.if-examples-gt8.false;
+  value = long_told _ _ (each_length the_example c.args.examples.now) c.if-are_small.ensures c.if-examples-gt8.false;
   right = λ e. absurd (some_is_none _ e);
 }

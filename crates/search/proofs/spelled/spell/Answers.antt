@@ -6,5 +6,5 @@ use Rattle.search.proofs.spelled.spell.Goals as goal
 
 pub returns : goal.returns
 returns c =
-    let both = rule_put (the_view c.problem-in.result) _ (the_held c.load-machine.result) _ c.args.out.now _ _ _ (omega (arith, c.requires.room)) c.problem-in.ensures c.load-machine.ensures c.put.ensures c.put-parts.ensures.after c.put-parts.ensures.value in
-    record { value = both.0; bound = c.put-parts.ensures.bound; after = both.1 }
+    let both = rule_put (the_view c.problem_in.result) _ (the_held c.load-machine.result) _ c.args.out.now _ _ _ (omega (arith, c.requires.room)) c.problem_in.ensures c.load-machine.ensures c.put.ensures c.put_parts.ensures.after c.put_parts.ensures.value in
+    record { value = both.0; bound = c.put_parts.ensures.bound; after = both.1 }

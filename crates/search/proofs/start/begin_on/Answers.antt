@@ -18,5 +18,5 @@ lay-requires c = record {
 pub returns : goal.returns
 returns c =
     machine_begins (the_examples c.args.examples.now) c.args.memory.now _ _ _ _ _
-    (problem_laid (the_examples c.args.examples.now) c.args.memory.now _ _ c.requires.small c.requires.size c.nothing-asked.ensures c.lay.ensures)
-    c.load-machine.ensures c.problem-in.ensures c.begin.ensures c.store.ensures
+    (problem_laid (the_examples c.args.examples.now) c.args.memory.now _ _ c.requires.small c.requires.size c.nothing_asked.ensures c.lay.ensures)
+    c.load-machine.ensures c.problem_in.ensures c.begin.ensures c.store.ensures

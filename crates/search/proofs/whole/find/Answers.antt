@@ -1,5 +1,5 @@
 -- Each piece that goes on leaves less to do; where it doesn't, the search has ended right.
-use Rattle.std.proofs.Common.{◌≡◌, sym, ◌∙◌}
+use Rattle.std.proofs.Common.{sym, ◌∙◌}
 use Rattle.candidates.specs.Values.{the_examples}
 use Rattle.search.specs.Begun.{begun_in}
 use Rattle.search.specs.Refusals.{refusal_of}
@@ -9,7 +9,7 @@ use Rattle.search.proofs.whole.find.Goals as goal
 
 pub loop-init : goal.loop-init
 loop-init c =
-    let told = begun_told (refusal_of (the_examples c.args.examples.now)) _ (begun_in (the_examples c.args.examples.now) c.args.memory.now) c.args.memory.now c.begin.new.memory c.in-ok-begin.ensures.told c.in-ok-begin.ensures.memory in
+    let told = begun_told (refusal_of (the_examples c.args.examples.now)) _ (begun_in (the_examples c.args.examples.now) c.args.memory.now) c.args.memory.now c.begin.new.memory c.in_ok-begin.ensures.told c.in_ok-begin.ensures.memory in
     under_way (the_examples c.args.examples.now) c.args.memory.now c.begin.new.memory (none_small (the_examples c.args.examples.now) told.0) c.requires told.1
 
 pub loop-smaller : goal.loop-smaller
@@ -22,10 +22,10 @@ loop-preserved c =
 
 pub returns-in-Found : goal.returns-in-Found
 returns-in-Found c =
-    let told = begun_told (refusal_of (the_examples c.args.examples.now)) _ (begun_in (the_examples c.args.examples.now) c.args.memory.now) c.args.memory.now c.begin.new.memory c.in-ok-begin.ensures.told c.in-ok-begin.ensures.memory in
+    let told = begun_told (refusal_of (the_examples c.args.examples.now)) _ (begun_in (the_examples c.args.examples.now) c.args.memory.now) c.args.memory.now c.begin.new.memory c.in_ok-begin.ensures.told c.in_ok-begin.ensures.memory in
     carried_out (the_examples c.args.examples.now) c.begin.new.memory c.loop.memory c.advance.new.memory _ c.loop.invariant c.advance.ensures.memory (sym c.in-Found.is ∙ c.advance.ensures.status) c.args.memory.now told.1 found_ends
 
 pub returns-in-NoRule : goal.returns-in-NoRule
 returns-in-NoRule c =
-    let told = begun_told (refusal_of (the_examples c.args.examples.now)) _ (begun_in (the_examples c.args.examples.now) c.args.memory.now) c.args.memory.now c.begin.new.memory c.in-ok-begin.ensures.told c.in-ok-begin.ensures.memory in
+    let told = begun_told (refusal_of (the_examples c.args.examples.now)) _ (begun_in (the_examples c.args.examples.now) c.args.memory.now) c.args.memory.now c.begin.new.memory c.in_ok-begin.ensures.told c.in_ok-begin.ensures.memory in
     carried_out (the_examples c.args.examples.now) c.begin.new.memory c.loop.memory c.advance.new.memory _ c.loop.invariant c.advance.ensures.memory (sym c.in-NoRule.is ∙ c.advance.ensures.status) c.args.memory.now told.1 none_ends

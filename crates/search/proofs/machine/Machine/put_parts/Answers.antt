@@ -9,8 +9,8 @@ use Rattle.search.proofs.machine.Machine.put_parts.Goals as goal
 pub loop-i-init : goal.loop-i-init
 loop-i-init c = parts_none (the_view c.args.problem) c.args.self.frames _
 
-pub put-candidate-at-requires : goal.put-candidate-at-requires
-put-candidate-at-requires c = let few = c.loop-i.invariant.few in let most = c.args.self.few in omega arith
+pub put_candidate-at-requires : goal.put_candidate-at-requires
+put_candidate-at-requires c = let few = c.loop-i.invariant.few in let most = c.args.self.few in omega arith
 
 pub loop-i-preserved : goal.loop-i-preserved
 loop-i-preserved c =
@@ -18,7 +18,7 @@ loop-i-preserved c =
     let most = c.args.self.few in
     let few = c.loop-i.invariant.few in
     parts_more (the_view c.args.problem) c.args.self.frames c.args.out.now c.loop-i.i c.loop-i.at _ _ _ _ _ c.loop-i.invariant (omega (arith, c.requires))
-    (get_or_default c.args.self.frames c.loop-i.i _ _ (omega arith)) c.saturating-sub-chosen.ensures c.put-candidate-at.ensures.after c.put-candidate-at.ensures.value c.put-candidate-at.ensures.bound
+    (get_or_default c.args.self.frames c.loop-i.i _ _ (omega arith)) c.saturating_sub-chosen.ensures c.put_candidate-at.ensures.after c.put_candidate-at.ensures.value c.put_candidate-at.ensures.bound
 
 pub returns : goal.returns
 returns c =

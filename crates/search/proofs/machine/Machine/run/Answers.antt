@@ -1,4 +1,4 @@
-use Rattle.std.proofs.Common.{◌≡◌, ap, ◌∙◌, arith}
+use Rattle.std.proofs.Common.{ap, ◌∙◌, arith}
 use Rattle.candidates.specs.Viewed.{the_view}
 use Rattle.search.specs.Steps.{held_steps}
 use Rattle.search.specs.Holds.{the_held}
