@@ -1,4 +1,4 @@
-use Rattle.std.proofs.Common.{◌∙◌, arith}
+use Rattle.std.proofs.Common.{arith}
 use Rattle.candidates.specs.Viewed.{the_view}
 use Rattle.candidates.proofs.LookSays.{greatest_none, greatest_more}
 use Rattle.candidates.proofs.problem.Problem.needed.Goals as goal
@@ -8,6 +8,6 @@ loop-e-init c = (greatest_none (the_view c.args.self) _ c.args.parts, omega arit
 
 pub loop-e-preserved : goal.loop-e-preserved
 loop-e-preserved c = (
-  c.max-most.ensures ∙ greatest_more (the_view c.args.self) c.args.state.now c.args.parts c.loop-e.e _ _ c.loop-e.invariant.0 c.guide_of.ensures.value,
+  cc (greatest_more (the_view c.args.self) c.args.state.now c.args.parts c.loop-e.e c.loop-e.most c.guide_of.result c.loop-e.invariant.0 c.guide_of.ensures.value),
   omega arith,
 )
