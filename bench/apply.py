@@ -1,5 +1,5 @@
 #!/usr/bin/env python3
-"""How fast the program `apply` goes through a file: bench/apply.py [LINES], after `rt check apply`.
+"""How fast the program `apply` goes through a file: bench/apply.py [LINES], after `./apply --help`.
 
 For some rules it prints the lines, the bytes read and written, the best of three times, lines a second, and, where
 valgrind is there, instructions a line, which stay the same however busy the machine is.
@@ -13,7 +13,7 @@ import sys
 import tempfile
 import time
 
-APPLY = os.path.join(os.path.dirname(__file__), "..", "target", "bin", "apply")
+APPLY = os.path.join(os.path.dirname(__file__), "..", "crates", "apply", "out", "apply")
 FIRST = ["Elin", "Per Olof", "Bo", "Åke", "Brita Kristina", "Jon", "Karin", "Øystein"]
 LAST = ["Berg", "Dahl", "Ek", "Öström", "Lind", "Moe", "Lindqvist"]
 RULES = [

@@ -1,7 +1,7 @@
 #!/usr/bin/env python3
 """Compares the program `apply` with a second implementation of docs/RULES.md, on random rules and texts.
 
-scripts/compare.py [CASES [SEED]], after `rt check apply`. It prints how many rows were compared, and ends with
+scripts/compare.py [CASES [SEED]], after `./apply --help`. It prints how many rows were compared, and ends with
 status 1 at the first that differs. Nothing here is taken from the proved sources.
 """
 import os
@@ -10,7 +10,7 @@ import subprocess
 import sys
 import tempfile
 
-APPLY = os.path.join(os.path.dirname(__file__), "..", "target", "bin", "apply")
+APPLY = os.path.join(os.path.dirname(__file__), "..", "crates", "apply", "out", "apply")
 RUNS = {
     "digits": (b"0123456789", "digits end", "digits begin"),
     "letters": (bytes(range(65, 91)) + bytes(range(97, 123)), "a run of letters ends", "a run of letters begins"),

@@ -5,7 +5,7 @@ use Rattle.std.proofs.lemmas.Bool.{and_parts, and_from}
 use Rattle.rules.specs.Rules.{Part, part_of}
 use Rattle.rules.specs.Promises.{made_length}
 use Rattle.rules.specs.Examples.{Example}
-use Rattle.candidates.specs.Moves.{goes_on, goes, moved, at_end_lem}
+use Rattle.candidates.specs.Moves.{goes_on, goes, moved, at_end}
 use Rattle.candidates.specs.Rows.{given_of, wanted_of, example_at}
 
 -- the example that is read, with any default
@@ -93,19 +93,19 @@ pub moved_next : (es : List Example) (p : Part) (s : List ℕ) (e : ℕ) → get
 moved_next es p s e = moved_take_next es p s e e (omega arith)
 
 -- THE END
-at_end_left_suc : (es : List Example) (s : List ℕ) (e : ℕ) → e < length es → e < length s → at_end_lem (drop e es) (drop e s) ≡ (eqb (get_or s e 0) (length (wanted_of es e)) && at_end_lem (drop (suc e) es) (drop (suc e) s))
-unfolding at_end_lem
+at_end_left_suc : (es : List Example) (s : List ℕ) (e : ℕ) → e < length es → e < length s → at_end (drop e es) (drop e s) ≡ (eqb (get_or s e 0) (length (wanted_of es e)) && at_end (drop (suc e) es) (drop (suc e) s))
+unfolding at_end
 at_end_left_suc [] s e h k = absurd (omega arith)
 at_end_left_suc (x ∷ es) [] e h k = absurd (omega arith)
 at_end_left_suc (x ∷ es) (j ∷ js) zero h k = refl
 at_end_left_suc (x ∷ es) (j ∷ js) (suc e) h k = at_end_left_suc es js e (omega arith) (omega arith)
 
-pub at_end_left : (es : List Example) (s : List ℕ) (e : ℕ) → e < length es → e < length s → at_end_lem (drop e es) (drop e s) ≡ (eqb (get_or s e 0) (length (wanted_of es e)) && at_end_lem (drop (e + 1) es) (drop (e + 1) s))
+pub at_end_left : (es : List Example) (s : List ℕ) (e : ℕ) → e < length es → e < length s → at_end (drop e es) (drop e s) ≡ (eqb (get_or s e 0) (length (wanted_of es e)) && at_end (drop (e + 1) es) (drop (e + 1) s))
 at_end_left es s e h k = rw add-one (at_end_left_suc es s e h k)
 
-at_end_none : (s : List ℕ) → at_end_lem [] s ≡ true
-unfolding at_end_lem
+at_end_none : (s : List ℕ) → at_end [] s ≡ true
+unfolding at_end
 at_end_none s = refl
 
-pub at_end_left_none : (es : List Example) (s : List ℕ) (e : ℕ) → length es ≤ e → at_end_lem (drop e es) (drop e s) ≡ true
-at_end_left_none es s e h = ap (λ xs. at_end_lem xs (drop e s)) (drop_all e es h) ∙ at_end_none (drop e s)
+pub at_end_left_none : (es : List Example) (s : List ℕ) (e : ℕ) → length es ≤ e → at_end (drop e es) (drop e s) ≡ true
+at_end_left_none es s e h = ap (λ xs. at_end xs (drop e s)) (drop_all e es h) ∙ at_end_none (drop e s)

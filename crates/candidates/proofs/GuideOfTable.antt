@@ -41,8 +41,8 @@ rows_least t n es U e few rows p x u at =
     let here = ap (λ z. get_or (least_costs t e n (replicate 65 255)) z 0) row.1.at in
     omega (arith, row.1.cheap)
 
-guide_of_lem : (t : List ℕ) (n : ℕ) (es : List Example) (U : Place → Bool) (ns : List ℕ) (e : ℕ) → e < 8 → length (given_of es e) ≤ 64 → RowsCheap t n es U e → GuideLaid (all_costs t n) es ns e → GuideOf es U ns e
-guide_of_lem t n es U ns e below few rows laid =
+table_guide : (t : List ℕ) (n : ℕ) (es : List Example) (U : Place → Bool) (ns : List ℕ) (e : ℕ) → e < 8 → length (given_of es e) ≤ 64 → RowsCheap t n es U e → GuideLaid (all_costs t n) es ns e → GuideOf es U ns e
+table_guide t n es U ns e below few rows laid =
     let is = costs_of t n e below in
     record {
       costs = get_or (all_costs t n) e [];
@@ -56,4 +56,4 @@ pub table_guide_sound :
     (t : List ℕ) (n : ℕ) (es : List Example) (U : Place → Bool) (ns : List ℕ) (e : ℕ) → e < length es → e < 8 →
     length (given_of es e) ≤ 64 → RowsCheap t n es U e → GuideLaid (all_costs t n) es ns e →
     (q : Rule) (s : List ℕ) (k : ℕ) → k ≤ 8 → length q ≤ k → uses U q ≡ true → leads es s q ≡ true → guide_number (drop (585 * e) ns) (get_or s e 0) k ≤ weight q
-table_guide_sound t n es U ns e h below few rows laid q s k = guide_of_sound es U ns e (guide_of_lem t n es U ns e below few rows laid) h q s k
+table_guide_sound t n es U ns e h below few rows laid q s k = guide_of_sound es U ns e (table_guide t n es U ns e below few rows laid) h q s k

@@ -54,31 +54,31 @@ module _ (es : List Example) (few : length es ≤ 8) (short : every short_exampl
     front_long : length (take 16 ns) ≡ 16
     front_long = length-take-le 16 ns (omega arith)
 
-    HLong : length H ≡ 16
-    HLong = counts_long (take 16 ns) (length es) t.rows front_long
+    h_long : length H ≡ 16
+    h_long = counts_long (take 16 ns) (length es) t.rows front_long
 
-    TLong : length T ≡ 1170
-    TLong =
+    t_long : length T ≡ 1170
+    t_long =
         let room = part_long ns size 16 1170 (omega arith) in
         texts_long es (short_at es short) (take 1170 (drop 16 ns)) (length es) (omega arith) (omega arith) ∙ room
 
-    GLong : length G ≡ 4680
-    GLong =
+    g_long : length G ≡ 4680
+    g_long =
         let room = part_long ns size 1186 4680 (omega arith) in
         guides_long (all_costs t.numbers t.rows) es (take 4680 (drop 1186 ns)) (length es) (omega arith) (λ e l. (short_at es short e l).1) ∙ room
 
     with_long : length (problem_with es t ns) ≡ 109866
-    with_long = four_long H T G t.numbers HLong TLong GLong fits.0
+    with_long = four_long H T G t.numbers h_long t_long g_long fits.0
 
     examples_read : min (get_or (problem_with es t ns) 0 0) 8 ≡ length es
     examples_read =
-        let a = head_number H T G t.numbers HLong TLong GLong fits.0 0 (omega arith) in
+        let a = head_number H T G t.numbers h_long t_long g_long fits.0 0 (omega arith) in
         let b = first_count (take 16 ns) (length es) t.rows front_long in
         omega arith
 
     rows_read : min (get_or (problem_with es t ns) 1 0) 6500 ≡ t.rows
     rows_read =
-        let a = head_number H T G t.numbers HLong TLong GLong fits.0 1 (omega arith) in
+        let a = head_number H T G t.numbers h_long t_long g_long fits.0 1 (omega arith) in
         let b = second_count (take 16 ns) (length es) t.rows front_long in
         omega (arith, fits.1)
 
@@ -87,9 +87,9 @@ module _ (es : List Example) (few : length es ≤ 8) (short : every short_exampl
         let P : List ℕ = problem_with es t ns in
         ap (λ n. record { examples = n; rows = min (get_or P 1 0) 6500; texts = take 1170 (drop 16 P); guide = take 4680 (drop 1186 P); table = take 104000 (drop 5866 P) }) examples_read
         ∙ ap (λ n. record { examples = length es; rows = n; texts = take 1170 (drop 16 P); guide = take 4680 (drop 1186 P); table = take 104000 (drop 5866 P) }) rows_read
-        ∙ ap (λ l. record { examples = length es; rows = t.rows; texts = l; guide = take 4680 (drop 1186 P); table = take 104000 (drop 5866 P) }) (texts_part H T G t.numbers HLong TLong GLong fits.0)
-        ∙ ap (λ l. record { examples = length es; rows = t.rows; texts = T; guide = l; table = take 104000 (drop 5866 P) }) (guide_part H T G t.numbers HLong TLong GLong fits.0)
-        ∙ ap (λ l. record { examples = length es; rows = t.rows; texts = T; guide = G; table = l }) (table_part H T G t.numbers HLong TLong GLong fits.0)
+        ∙ ap (λ l. record { examples = length es; rows = t.rows; texts = l; guide = take 4680 (drop 1186 P); table = take 104000 (drop 5866 P) }) (texts_part H T G t.numbers h_long t_long g_long fits.0)
+        ∙ ap (λ l. record { examples = length es; rows = t.rows; texts = T; guide = l; table = take 104000 (drop 5866 P) }) (guide_part H T G t.numbers h_long t_long g_long fits.0)
+        ∙ ap (λ l. record { examples = length es; rows = t.rows; texts = T; guide = G; table = l }) (table_part H T G t.numbers h_long t_long g_long fits.0)
 
   module _ (asked : List (List ℕ)) where
     fits : Fits (table_for es asked (take 104000 (drop 5866 ns)))

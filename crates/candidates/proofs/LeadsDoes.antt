@@ -7,7 +7,7 @@ use Rattle.rules.specs.Rules.{Part, Rule, made, makes, part_of, is_made}
 use Rattle.rules.specs.Promises.{made_length}
 use Rattle.rules.specs.Examples.{Example, does}
 use Rattle.rules.proofs.WhatIsMade.{is_made_eq, is_made_itself}
-use Rattle.candidates.specs.Moves.{goes_on, goes, moved, at_end_lem, leads, within, start}
+use Rattle.candidates.specs.Moves.{goes_on, goes, moved, at_end, leads, within, start}
 use Rattle.candidates.specs.Rows.{given_of, wanted_of}
 use Rattle.candidates.proofs.GoesOn.{same_tests, goes_on_within, makes_step}
 
@@ -47,8 +47,8 @@ rest_step e j p q =
     let g = goes_on_within e p j in
     grind (arith, nat_tests)
 
-rests_none : (es : List Example) (s : List ℕ) → makes_rests es s [] ≡ at_end_lem es s
-unfolding makes_rests at_end_lem
+rests_none : (es : List Example) (s : List ℕ) → makes_rests es s [] ≡ at_end es s
+unfolding makes_rests at_end
 rests_none [] s = refl
 rests_none (e ∷ es) [] = refl
 rests_none (e ∷ es) (j ∷ js) = ap₂ ◌&&◌ (rest_none e j) (rests_none es js)

@@ -19,59 +19,59 @@ module _ (ns T : List ℕ) (size : length ns ≡ 109866) (kept_T : length T ≡ 
   abbrev D : List ℕ
   D = take 104000 (drop 5866 ns)
 
-  HLong : length H ≡ 16
-  HLong = length-take-le 16 ns (omega arith)
+  h_long : length H ≡ 16
+  h_long = length-take-le 16 ns (omega arith)
 
-  CLong : length C ≡ 4680
-  CLong = part_long ns size 1186 4680 (omega arith)
+  c_long : length C ≡ 4680
+  c_long = part_long ns size 1186 4680 (omega arith)
 
-  DLong : length D ≡ 104000
-  DLong = part_long ns size 5866 104000 (omega arith)
+  d_long : length D ≡ 104000
+  d_long = part_long ns size 5866 104000 (omega arith)
 
-  TLong : length T ≡ 1170
-  TLong = kept_T ∙ part_long ns size 16 1170 (omega arith)
+  t_long : length T ≡ 1170
+  t_long = kept_T ∙ part_long ns size 16 1170 (omega arith)
 
   one_is : put_mid 16 1170 ns T ≡ H ++ (T ++ (C ++ D))
   one_is =
       ap (λ l. put_mid 16 1170 l T) (four_parts ns size)
-      ∙ texts_written H (take 1170 (drop 16 ns)) C D HLong (part_long ns size 16 1170 (omega arith)) CLong DLong T
+      ∙ texts_written H (take 1170 (drop 16 ns)) C D h_long (part_long ns size 16 1170 (omega arith)) c_long d_long T
 
   -- the numbers that the table is laid down over
   table_before : take 104000 (drop 5866 (put_mid 16 1170 ns T)) ≡ D
-  table_before = ap (λ l. take 104000 (drop 5866 l)) one_is ∙ table_part H T C D HLong TLong CLong DLong
+  table_before = ap (λ l. take 104000 (drop 5866 l)) one_is ∙ table_part H T C D h_long t_long c_long d_long
 
   module _ (B : List ℕ) (kept_B : length B ≡ length (take 104000 (drop 5866 (put_mid 16 1170 ns T)))) where
     abbrev two : List ℕ
     two = put_mid 5866 104000 (put_mid 16 1170 ns T) B
 
-    BLong : length B ≡ 104000
-    BLong = kept_B ∙ ap length table_before ∙ DLong
+    b_long : length B ≡ 104000
+    b_long = kept_B ∙ ap length table_before ∙ d_long
 
     two_is : two ≡ H ++ (T ++ (C ++ B))
-    two_is = ap (λ l. put_mid 5866 104000 l B) one_is ∙ table_written H T C D HLong TLong CLong DLong B
+    two_is = ap (λ l. put_mid 5866 104000 l B) one_is ∙ table_written H T C D h_long t_long c_long d_long B
 
     -- the table as it is read, and the numbers that the guide is laid down over
     table_behind : take 104000 (drop 5866 two) ≡ B
-    table_behind = ap (λ l. take 104000 (drop 5866 l)) two_is ∙ table_part H T C B HLong TLong CLong BLong
+    table_behind = ap (λ l. take 104000 (drop 5866 l)) two_is ∙ table_part H T C B h_long t_long c_long b_long
 
     guide_before : take 4680 (drop 1186 two) ≡ C
-    guide_before = ap (λ l. take 4680 (drop 1186 l)) two_is ∙ guide_part H T C B HLong TLong CLong BLong
+    guide_before = ap (λ l. take 4680 (drop 1186 l)) two_is ∙ guide_part H T C B h_long t_long c_long b_long
 
     pub guide_room : length (take 4680 (drop 1186 (put_mid 5866 104000 (put_mid 16 1170 ns T) B))) ≡ 4680
-    guide_room = ap length guide_before ∙ CLong
+    guide_room = ap length guide_before ∙ c_long
 
     module _ (G : List ℕ) (kept_G : length G ≡ length (take 4680 (drop 1186 (put_mid 5866 104000 (put_mid 16 1170 ns T) B)))) (n r : ℕ) where
       abbrev three : List ℕ
       three = put_mid 1186 4680 two G
 
-      GLong : length G ≡ 4680
-      GLong = kept_G ∙ guide_room
+      g_long : length G ≡ 4680
+      g_long = kept_G ∙ guide_room
 
       three_is : three ≡ H ++ (T ++ (G ++ B))
-      three_is = ap (λ l. put_mid 1186 4680 l G) two_is ∙ guide_written H T C B HLong TLong CLong BLong G
+      three_is = ap (λ l. put_mid 1186 4680 l G) two_is ∙ guide_written H T C B h_long t_long c_long b_long G
 
       three_long : length three ≡ 109866
-      three_long = ap length three_is ∙ four_long H T G B HLong TLong GLong BLong
+      three_long = ap length three_is ∙ four_long H T G B h_long t_long g_long b_long
 
       pub second_there : 1 < length (set (put_mid 1186 4680 (put_mid 5866 104000 (put_mid 16 1170 ns T) B) G) 0 n)
       second_there = let l = length-set three 0 n ∙ three_long in omega arith
@@ -81,8 +81,8 @@ module _ (ns T : List ℕ) (size : length ns ≡ 109866) (kept_T : length T ≡ 
 
       counts_is : set (set three 0 n) 1 r ≡ set (set H 0 n) 1 r ++ (T ++ (G ++ B))
       counts_is =
-          ap (λ l. set (set l 0 n) 1 r) three_is ∙ ap (λ l. set l 1 r) (head_written H T G B HLong TLong GLong BLong 0 n (omega arith))
-          ∙ head_written (set H 0 n) T G B (length-set H 0 n ∙ HLong) TLong GLong BLong 1 r (omega arith)
+          ap (λ l. set (set l 0 n) 1 r) three_is ∙ ap (λ l. set l 1 r) (head_written H T G B h_long t_long g_long b_long 0 n (omega arith))
+          ∙ head_written (set H 0 n) T G B (length-set H 0 n ∙ h_long) t_long g_long b_long 1 r (omega arith)
 
       module _ (es : List Example) (asked : List (List ℕ)) (many : n ≡ length es) (css : List (List ℕ)) (texts : T ≡ texts_laid es n (take 1170 (drop 16 ns))) where
         over_table : (t : Table) → record { numbers = B; rows = r } ≡ t → css ≡ all_costs B r → G ≡ guides_laid css es n C → set (set H 0 n) 1 r ++ (T ++ (G ++ B)) ≡ problem_with es t ns

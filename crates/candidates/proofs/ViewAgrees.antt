@@ -5,7 +5,7 @@ use Rattle.rules.specs.Lists.{pick, every}
 use Rattle.rules.specs.Rules.{Rule, a_part}
 use Rattle.rules.specs.Examples.{Example}
 use Rattle.candidates.specs.Weights.{part_weight, weight}
-use Rattle.candidates.specs.Moves.{goes, moved, at_end_lem, leads, fit}
+use Rattle.candidates.specs.Moves.{goes, moved, at_end, leads, fit}
 use Rattle.candidates.specs.Rows.{wanted_of}
 use Rattle.candidates.specs.Candidates.{count, candidate}
 use Rattle.candidates.specs.Problem.{View, all_go, all_moved, candidate_piece, all_at_end, greatest}
@@ -18,25 +18,25 @@ use Rattle.candidates.proofs.PiecesAgree.{within_length, pieces_go, pieces_move}
 use Rattle.candidates.proofs.CandidatePieces.{pieces_made, weight_agrees}
 
 -- THE END
-at_end_past : (es : List Example) (s : List ℕ) (e : ℕ) → e < length es → e < length s → at_end_lem (take (suc e) es) s ≡ (at_end_lem (take e es) s && eqb (get_or s e 0) (length (wanted_of es e)))
-unfolding at_end_lem
+at_end_past : (es : List Example) (s : List ℕ) (e : ℕ) → e < length es → e < length s → at_end (take (suc e) es) s ≡ (at_end (take e es) s && eqb (get_or s e 0) (length (wanted_of es e)))
+unfolding at_end
 at_end_past [] s e h k = absurd (omega arith)
 at_end_past (x ∷ es) [] e h k = absurd (omega arith)
 at_end_past (x ∷ es) (j ∷ js) zero h k = grind arith
 at_end_past (x ∷ es) (j ∷ js) (suc e) h k = let ih = at_end_past es js e (omega arith) (omega arith) in grind arith
 
 module _ (es : List Example) (asked : List (List ℕ)) (v : View) (laid : Laid es asked v) (s : List ℕ) where
-  at_end_of : (m : ℕ) → length es ≤ length s → m ≤ length es → all_at_end v m s ≡ at_end_lem (take m es) s
-  unfolding all_at_end at_end_lem
+  at_end_of : (m : ℕ) → length es ≤ length s → m ≤ length es → all_at_end v m s ≡ at_end (take m es) s
+  unfolding all_at_end at_end
   at_end_of zero l h = refl
   at_end_of (suc m) l h =
       ap₂ ◌&&◌ (at_end_of m l (omega arith)) (ap (λ w. eqb (get_or s m 0) (length w)) (laid.wanted m (omega arith)))
       ∙ sym (at_end_past es s m (omega arith) (omega arith))
 
-  pub end_agrees : fit es s ≡ true → all_at_end v v.examples s ≡ at_end_lem es s
+  pub end_agrees : fit es s ≡ true → all_at_end v v.examples s ≡ at_end es s
   end_agrees f =
       ap (λ m. all_at_end v m s) laid.examples ∙ at_end_of (length es) (within_length es s (fit_within es s f)) (omega arith)
-      ∙ ap (λ xs. at_end_lem xs s) (take_all (length es) es (omega arith))
+      ∙ ap (λ xs. at_end xs s) (take_all (length es) es (omega arith))
 
   -- THE GUIDE
   pub lower_agrees : (k : ℕ) (q : Rule) → k ≤ 8 → length q ≤ k → every a_part q ≡ true → leads es s q ≡ true → greatest v k v.examples s ≤ weight q

@@ -23,14 +23,14 @@ moved (e ∷ es) p [] = []
 moved (e ∷ es) p (j ∷ js) = (j + made_length (part_of e.given p)) ∷ moved es p js
 
 -- every wanted text has been made
-unfoldable pub at_end_lem : List Example → List ℕ → Bool
-at_end_lem [] s = true
-at_end_lem (e ∷ es) [] = false
-at_end_lem (e ∷ es) (j ∷ js) = j == length e.wanted && at_end_lem es js
+unfoldable pub at_end : List Example → List ℕ → Bool
+at_end [] s = true
+at_end (e ∷ es) [] = false
+at_end (e ∷ es) (j ∷ js) = j == length e.wanted && at_end es js
 
 -- the parts lead from a state to the end
 unfoldable pub leads : List Example → List ℕ → Rule → Bool
-leads es s [] = at_end_lem es s
+leads es s [] = at_end es s
 leads es s (p ∷ ps) = goes es p s && leads es (moved es p s) ps
 
 -- no position is past the end of its wanted text

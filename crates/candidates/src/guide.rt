@@ -41,10 +41,10 @@ pub(crate) fn least_costs(table: &[u64], rows: usize, e: usize) -> [u64; 65]
 
 // Cuts from a place that costs so much, along given and wanted bytes as long as they are alike.
 fn along(room: &mut [u64], from: u64, costs: &[u64], given: &[u8], wanted: &[u8])
-    requires wanted_in_bounds { length wanted.now ≤ length room.old }
-    requires given_in_bounds { length given.now ≤ length costs.now }
-    requires from_bound { from ≤ 255 }
-    requires none_above { NoneAbove 255 costs.now }
+    requires room_for_wanted { length wanted.now ≤ length room.old }
+    requires a_cost_for_each_given { length given.now ≤ length costs.now }
+    requires from_small { from ≤ 255 }
+    requires costs_small { NoneAbove 255 costs.now }
     ensures { room.new ≡ along from costs.now given.now wanted.now room.old }
 {
     for d in 0..given.len().min(wanted.len()) {
@@ -57,10 +57,10 @@ fn along(room: &mut [u64], from: u64, costs: &[u64], given: &[u8], wanted: &[u8]
 
 // For each number of bytes from 1 on, the least weight of a part that makes so many of the wanted text.
 fn lay_steps(room: &mut [u64], costs: &[u64; 65], given: &[u8], wanted: &[u8])
-    requires room_len { length room.old ≡ length wanted.now }
-    requires wanted_len_bound { length wanted.now ≤ 64 }
-    requires given_len_bound { length given.now ≤ 64 }
-    requires none_above { NoneAbove 255 costs.now }
+    requires room_as_wanted { length room.old ≡ length wanted.now }
+    requires wanted_short { length wanted.now ≤ 64 }
+    requires given_short { length given.now ≤ 64 }
+    requires costs_small { NoneAbove 255 costs.now }
     ensures laid { room.new ≡ steps costs.now given.now wanted.now }
     ensures small { NoneAbove 4177 room.new }
 {
@@ -74,11 +74,11 @@ fn lay_steps(room: &mut [u64], costs: &[u64; 65], given: &[u8], wanted: &[u8])
 
 // The least of a step and what is needed behind it with k parts.
 fn least_sum(weights: &[u64], behind: &[u64], k: usize) -> u64
-    requires weights_len_bound { length weights.now ≤ 64 }
-    requires behind_len { length behind.now ≡ 9 * length weights.now }
-    requires k_bound { k < 9 }
-    requires none_above { NoneAbove 4177 weights.now }
-    requires none_above_2 { NoneAbove 65536 behind.now }
+    requires weights_few { length weights.now ≤ 64 }
+    requires nine_behind_each { length behind.now ≡ 9 * length weights.now }
+    requires up_to_eight_parts { k < 9 }
+    requires weights_small { NoneAbove 4177 weights.now }
+    requires behind_small { NoneAbove 65536 behind.now }
     ensures { result ≡ least_in k weights.now behind.now }
 {
     let mut least = FAR;
@@ -96,12 +96,12 @@ fn column_in(
     wanted: &[u8],
     behind: &[u64],
 ) -> [u64; 9]
-    requires room_len { length room.old ≡ length wanted.now }
-    requires wanted_len_bound { length wanted.now ≤ 64 }
-    requires given_len_bound { length given.now ≤ 64 }
-    requires none_above { NoneAbove 255 costs.now }
-    requires behind_len { length behind.now ≡ 9 * length wanted.now }
-    requires none_above_2 { NoneAbove 65536 behind.now }
+    requires room_as_wanted { length room.old ≡ length wanted.now }
+    requires wanted_short { length wanted.now ≤ 64 }
+    requires given_short { length given.now ≤ 64 }
+    requires costs_small { NoneAbove 255 costs.now }
+    requires nine_behind_each { length behind.now ≡ 9 * length wanted.now }
+    requires behind_small { NoneAbove 65536 behind.now }
     ensures { result ≡ column_in (steps costs.now given.now wanted.now) behind.now }
 {
     lay_steps(room, costs, given, wanted);
@@ -120,11 +120,11 @@ fn column_in(
 
 // The column where these bytes are wanted, before those that lie behind it.
 fn column(costs: &[u64; 65], given: &[u8], wanted: &[u8], behind: &[u64]) -> [u64; 9]
-    requires wanted_len_bound { length wanted.now ≤ 64 }
-    requires given_len_bound { length given.now ≤ 64 }
-    requires none_above { NoneAbove 255 costs.now }
-    requires behind_len { length behind.now ≡ 9 * length wanted.now }
-    requires none_above_2 { NoneAbove 65536 behind.now }
+    requires wanted_short { length wanted.now ≤ 64 }
+    requires given_short { length given.now ≤ 64 }
+    requires costs_small { NoneAbove 255 costs.now }
+    requires nine_behind_each { length behind.now ≡ 9 * length wanted.now }
+    requires behind_small { NoneAbove 65536 behind.now }
     ensures { result ≡ column_in (steps costs.now given.now wanted.now) behind.now }
 {
     let mut room = [0u64; 64];
@@ -133,8 +133,8 @@ fn column(costs: &[u64; 65], given: &[u8], wanted: &[u8], behind: &[u64]) -> [u6
 
 // Lays down one column at a position.
 fn put_column(out: &mut [u64], at: usize, column: [u64; 9])
-    requires at_in_bounds { at + 9 ≤ length out.old }
-    requires out_len_bound { length out.old ≤ 585 }
+    requires room { at + 9 ≤ length out.old }
+    requires one_guide_at_most { length out.old ≤ 585 }
     ensures { out.new ≡ with_column out.old at column }
 {
     out[at..at + 9].copy_from_slice(&column);
@@ -142,10 +142,10 @@ fn put_column(out: &mut [u64], at: usize, column: [u64; 9])
 
 // Lays down the columns of an example, from its end to its beginning.
 pub(crate) fn lay_guide(out: &mut [u64], costs: &[u64; 65], given: &[u8], wanted: &[u8])
-    requires out_len { length out.old ≡ 585 }
-    requires wanted_len_bound { length wanted.now ≤ 64 }
-    requires given_len_bound { length given.now ≤ 64 }
-    requires none_above { NoneAbove 255 costs.now }
+    requires size { length out.old ≡ 585 }
+    requires wanted_short { length wanted.now ≤ 64 }
+    requires given_short { length given.now ≤ 64 }
+    requires costs_small { NoneAbove 255 costs.now }
     ensures { out.new ≡ laid_columns (columns costs.now given.now wanted.now) out.old }
 {
     let end = 9 * wanted.len();
@@ -158,11 +158,11 @@ pub(crate) fn lay_guide(out: &mut [u64], costs: &[u64; 65], given: &[u8], wanted
 
 // Lays down the guide of example e in its place.
 fn lay_in_place(out: &mut [u64], costs: &[u64; 65], e: usize, given: &[u8], wanted: &[u8])
-    requires out_len { length out.old ≡ 4680 }
-    requires e_bound { e < 8 }
-    requires given_len_bound { length given.now ≤ 64 }
-    requires wanted_len_bound { length wanted.now ≤ 64 }
-    requires none_above { NoneAbove 255 costs.now }
+    requires size { length out.old ≡ 4680 }
+    requires one_of_eight { e < 8 }
+    requires given_short { length given.now ≤ 64 }
+    requires wanted_short { length wanted.now ≤ 64 }
+    requires costs_small { NoneAbove 255 costs.now }
     ensures { out.new ≡ with_guide out.old e (columns costs.now given.now wanted.now) }
 {
     lay_guide(&mut out[585 * e..585 * e + 585], costs, given, wanted);
@@ -170,8 +170,8 @@ fn lay_in_place(out: &mut [u64], costs: &[u64; 65], e: usize, given: &[u8], want
 
 // The costs for eight given texts.
 pub(crate) fn all_costs(table: &[u64], rows: usize) -> [[u64; 65]; 8]
-    requires table_len { length table.now ≡ 104000 }
-    requires rows_bound { rows ≤ 6500 }
+    requires size { length table.now ≡ 104000 }
+    requires few { rows ≤ 6500 }
     ensures { result ≡ all_costs table.now rows }
 {
     [
@@ -188,10 +188,10 @@ pub(crate) fn all_costs(table: &[u64], rows: usize) -> [[u64; 65]; 8]
 
 // Lays down the guides of all examples, those of one behind those of the other.
 pub(crate) fn lay_guides(out: &mut [u64], costs: &[[u64; 65]; 8], examples: &[Example])
-    requires out_len { length out.old ≡ 4680 }
-    requires by_index { (e : ℕ) → e < 8 → NoneAbove 255 (slice_index_or costs.now e []) }
-    requires examples_len_bound { length examples.now ≤ 8 }
-    requires examples_value { every short_example (the_examples examples.now) ≡ true }
+    requires size { length out.old ≡ 4680 }
+    requires costs_small { (e : ℕ) → e < 8 → NoneAbove 255 (slice_index_or costs.now e []) }
+    requires few { length examples.now ≤ 8 }
+    requires short { every short_example (the_examples examples.now) ≡ true }
     ensures { out.new ≡ guides_laid costs.now (the_examples examples.now) (length examples.now) out.old }
 {
     for (e, example) in examples.iter().enumerate() {

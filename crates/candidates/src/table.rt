@@ -66,7 +66,7 @@ fn move_down(numbers: &mut [u64], i: usize, rows: usize)
 pub(crate) fn add(numbers: &mut [u64], rows: usize, row: &[u64; 16]) -> usize
     requires size { length numbers.old ≡ table_size }
     requires rows { rows ≤ most_rows }
-    ensures table { record { numbers = numbers.exit.now; rows = result } ≡ added (record { numbers = numbers.entry.now; rows = rows }) row.now }
+    ensures table { record { numbers = numbers.new; rows = result } ≡ added (record { numbers = numbers.old; rows = rows }) row.now }
     ensures bound { result ≤ most_rows }
 {
     let i = alike_at(numbers, rows, row);

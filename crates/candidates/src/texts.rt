@@ -19,10 +19,10 @@ fn put_text(out: &mut [u64], at: usize, text: &[u8])
 
 // Lays down the texts of example e in their place.
 fn put_example(out: &mut [u64], e: usize, given: &[u8], wanted: &[u8])
-    requires out_len { length out.old ≡ 1170 }
-    requires e_bound { e < 8 }
-    requires given_len_bound { length given.now ≤ 64 }
-    requires wanted_len_bound { length wanted.now ≤ 64 }
+    requires size { length out.old ≡ 1170 }
+    requires one_of_eight { e < 8 }
+    requires given_short { length given.now ≤ 64 }
+    requires wanted_short { length wanted.now ≤ 64 }
     ensures { out.new ≡ with_example out.old e given.now wanted.now }
 {
     out[130 * e] = given.len() as u64;
@@ -33,9 +33,9 @@ fn put_example(out: &mut [u64], e: usize, given: &[u8], wanted: &[u8])
 
 // Lays down the texts of all examples.
 pub(crate) fn lay_texts(out: &mut [u64], examples: &[Example])
-    requires out_len { length out.old ≡ 1170 }
-    requires examples_len_bound { length examples.now ≤ 8 }
-    requires examples_value { every short_example (the_examples examples.now) ≡ true }
+    requires size { length out.old ≡ 1170 }
+    requires few { length examples.now ≤ 8 }
+    requires short { every short_example (the_examples examples.now) ≡ true }
     ensures { out.new ≡ texts_laid (the_examples examples.now) (length examples.now) out.old }
 {
     for (e, example) in examples.iter().enumerate() {

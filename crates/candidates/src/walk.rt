@@ -25,7 +25,7 @@ fn try_place(
     requires size { length numbers.old ≡ table_size }
     requires rows { rows ≤ most_rows }
     requires few { length examples.now ≤ 8 }
-    ensures table { record { numbers = numbers.exit.now; rows = result } ≡ tried (the_examples examples.now) (the_asked asked.entry) (record { numbers = numbers.entry.now; rows = rows }) (the_place place) }
+    ensures table { record { numbers = numbers.new; rows = result } ≡ tried (the_examples examples.now) (the_asked asked.entry) (record { numbers = numbers.old; rows = rows }) (the_place place) }
     ensures bound { result ≤ most_rows }
 {
     if lies_in_all(place, examples) {
@@ -46,7 +46,7 @@ fn try_from_first(
     requires size { length numbers.old ≡ table_size }
     requires rows { rows ≤ most_rows }
     requires few { length examples.now ≤ 8 }
-    ensures table { record { numbers = numbers.exit.now; rows = result } ≡ all_tried (the_examples examples.now) (the_asked asked.entry) (record { numbers = numbers.entry.now; rows = rows }) (each (λ n. from_first n) (up_to 65)) }
+    ensures table { record { numbers = numbers.new; rows = result } ≡ all_tried (the_examples examples.now) (the_asked asked.entry) (record { numbers = numbers.old; rows = rows }) (each (λ n. from_first n) (up_to 65)) }
     ensures bound { result ≤ most_rows }
 {
     let mut count = rows;
@@ -66,7 +66,7 @@ fn try_from_last(
     requires size { length numbers.old ≡ table_size }
     requires rows { rows ≤ most_rows }
     requires few { length examples.now ≤ 8 }
-    ensures table { record { numbers = numbers.exit.now; rows = result } ≡ all_tried (the_examples examples.now) (the_asked asked.entry) (record { numbers = numbers.entry.now; rows = rows }) (each (λ n. from_last n) (up_to 65)) }
+    ensures table { record { numbers = numbers.new; rows = result } ≡ all_tried (the_examples examples.now) (the_asked asked.entry) (record { numbers = numbers.old; rows = rows }) (each (λ n. from_last n) (up_to 65)) }
     ensures bound { result ≤ most_rows }
 {
     let mut count = rows;
@@ -90,7 +90,7 @@ fn try_both_ways(
     requires rows { rows ≤ most_rows }
     requires few { length examples.now ≤ 8 }
     requires small { n ≤ 64 }
-    ensures table { record { numbers = numbers.exit.now; rows = result } ≡ all_tried (the_examples examples.now) (the_asked asked.entry) (record { numbers = numbers.entry.now; rows = rows }) (both_ways (kind_number left) (kind_number right) n) }
+    ensures table { record { numbers = numbers.new; rows = result } ≡ all_tried (the_examples examples.now) (the_asked asked.entry) (record { numbers = numbers.old; rows = rows }) (both_ways (kind_number left) (kind_number right) n) }
     ensures bound { result ≤ most_rows }
 {
     let first = Place::NthOf {
@@ -131,7 +131,7 @@ fn try_between(
     requires size { length numbers.old ≡ table_size }
     requires rows { rows ≤ most_rows }
     requires few { length examples.now ≤ 8 }
-    ensures table { record { numbers = numbers.exit.now; rows = result } ≡ all_tried (the_examples examples.now) (the_asked asked.entry) (record { numbers = numbers.entry.now; rows = rows }) (places_between text.now (kind_number left) (kind_number right)) }
+    ensures table { record { numbers = numbers.new; rows = result } ≡ all_tried (the_examples examples.now) (the_asked asked.entry) (record { numbers = numbers.old; rows = rows }) (places_between text.now (kind_number left) (kind_number right)) }
     ensures bound { result ≤ most_rows }
 {
     if left.number() + right.number() == 0 {
@@ -157,7 +157,7 @@ fn try_behind(
     requires size { length numbers.old ≡ table_size }
     requires rows { rows ≤ most_rows }
     requires few { length examples.now ≤ 8 }
-    ensures table { record { numbers = numbers.exit.now; rows = result } ≡ all_tried (the_examples examples.now) (the_asked asked.entry) (record { numbers = numbers.entry.now; rows = rows }) (places_behind text.now (each kind_number kinds.now) (kind_number left)) }
+    ensures table { record { numbers = numbers.new; rows = result } ≡ all_tried (the_examples examples.now) (the_asked asked.entry) (record { numbers = numbers.old; rows = rows }) (places_behind text.now (each kind_number kinds.now) (kind_number left)) }
     ensures bound { result ≤ most_rows }
 {
     let mut count = rows;
@@ -179,7 +179,7 @@ fn try_kinds(
     requires size { length numbers.old ≡ table_size }
     requires rows { rows ≤ most_rows }
     requires few { length examples.now ≤ 8 }
-    ensures table { record { numbers = numbers.exit.now; rows = result } ≡ all_tried (the_examples examples.now) (the_asked asked.entry) (record { numbers = numbers.entry.now; rows = rows }) (flat (λ l. places_behind text.now (each kind_number kinds.now) l) (each kind_number kinds.now)) }
+    ensures table { record { numbers = numbers.new; rows = result } ≡ all_tried (the_examples examples.now) (the_asked asked.entry) (record { numbers = numbers.old; rows = rows }) (flat (λ l. places_behind text.now (each kind_number kinds.now) l) (each kind_number kinds.now)) }
     ensures bound { result ≤ most_rows }
 {
     let mut count = rows;
@@ -193,7 +193,7 @@ fn try_kinds(
 fn try_text(numbers: &mut [u64], examples: &[Example], asked: Option<&[u8]>, text: &[u8]) -> usize
     requires size { length numbers.old ≡ table_size }
     requires few { length examples.now ≤ 8 }
-    ensures table { record { numbers = numbers.exit.now; rows = result } ≡ all_tried (the_examples examples.now) (the_asked asked.entry) (record { numbers = numbers.entry.now; rows = 0 }) (places_in text.now) }
+    ensures table { record { numbers = numbers.new; rows = result } ≡ all_tried (the_examples examples.now) (the_asked asked.entry) (record { numbers = numbers.old; rows = 0 }) (places_in text.now) }
     ensures bound { result ≤ most_rows }
 {
     let kinds = kinds_in(text);
@@ -224,7 +224,7 @@ fn first_given<'a>(examples: &[Example<'a>]) -> &'a [u8]
 pub(crate) fn lay_rows(numbers: &mut [u64], examples: &[Example], asked: Option<&[u8]>) -> usize
     requires size { length numbers.old ≡ table_size }
     requires few { length examples.now ≤ 8 }
-    ensures table { record { numbers = numbers.exit.now; rows = result } ≡ table_for (the_examples examples.now) (the_asked asked.entry) numbers.entry.now }
+    ensures table { record { numbers = numbers.new; rows = result } ≡ table_for (the_examples examples.now) (the_asked asked.entry) numbers.old }
     ensures bound { result ≤ most_rows }
 {
     try_text(numbers, examples, asked, first_given(examples))

@@ -1,7 +1,6 @@
 -- The test of `specs/` for UTF-8 tells what that of `std` tells.
 use Rattle.std.proofs.Common.{◌≡◌, ℕ, true, false, ◌⊎◌, List, is_ok, Ok, Err, IsUtf8, Decides, Result, sym, refl, inl, inr, MatchResult}
-use lib.Utf8.{encodes, scalars}
-use Rattle.std.specs.Str.{chars}
+use Rattle.std.specs.Str.{chars, encode_utf8_all, all_scalars}
 use Rattle.std.proofs.lemmas.Slice.Eq.{compares_Decides}
 use Rattle.std.proofs.lemmas.Bool.{and_from, and_parts, cases_Bool}
 use Rattle.std.proofs.lemmas.Str.{scalars-chars, encodes-chars}
@@ -16,7 +15,7 @@ utf8_true : (bs : List ℕ) → IsUtf8 bs → utf8 bs ≡ true
 utf8_true bs u = and_from _ _ (scalars-chars bs u) ((same_decides _ _).1 (encodes-chars bs u))
 
 true_utf8 : (bs : List ℕ) → utf8 bs ≡ true → IsUtf8 bs
-true_utf8 bs e = let both = and_parts (scalars (chars bs)) (same (encodes (chars bs)) bs) e in (chars bs, (both.0, (same_decides _ _).0 both.1))
+true_utf8 bs e = let both = and_parts (all_scalars (chars bs)) (same (encode_utf8_all (chars bs)) bs) e in (chars bs, (both.0, (same_decides _ _).0 both.1))
 
 utf8_false : (bs : List ℕ) → (IsUtf8 bs → ⊥) → (utf8 bs ≡ true) ⊎ (utf8 bs ≡ false) → utf8 bs ≡ false
 utf8_false bs u (inl e) = absurd (u (true_utf8 bs e))

@@ -1,7 +1,6 @@
 -- Rules as text: what is printed of a rule. Assumes nothing: these are definitions.
 use Rattle.std.specs.Prelude.{ℕ, ◌+◌, ◌-◌, ◌/◌, ◌%◌, Bool, true, false, not, ◌&&◌, List, [], ◌∷◌, ◌++◌, codes, ◌==◌, nat_lt}
-use Rattle.std.proofs.Math.Utf8.{encodes, scalars}
-use Rattle.std.specs.Str.{chars}
+use Rattle.std.specs.Str.{chars, encode_utf8_all, all_scalars}
 use Rattle.rules.specs.Lists.{pick, or, flat, same, between}
 use Rattle.rules.specs.Places.{Place, from_first, from_last, nth_of}
 use Rattle.rules.specs.Rules.{Part, bytes, cut, Rule}
@@ -9,7 +8,7 @@ use Rattle.rules.specs.Rules.{Part, bytes, cut, Rule}
 -- WHAT STANDS IN QUOTES
 -- the bytes are UTF-8 as a whole
 abbrev pub utf8 : List ℕ → Bool
-utf8 bs = scalars (chars bs) && same (encodes (chars bs)) bs
+utf8 bs = all_scalars (chars bs) && same (encode_utf8_all (chars bs)) bs
 
 -- a hexadecimal digit, of a number below 16
 abbrev pub hex : ℕ → ℕ

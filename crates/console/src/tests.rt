@@ -50,9 +50,9 @@ fn is_refused(
     match read_rule(rt.alloc(), text.as_bytes()) {
         Ok(_) => Err(Fail::new("the text was read")),
         Err(why) => {
-            assert_eq!(rt; why, NotARule::At { byte, expected }, "{}", text);
+            assert_eq!(rt; why, NotARule::At { byte, expected }, "{text}");
             Ok(())
-        },
+        }
     }
 }
 

@@ -6,7 +6,7 @@ use Rattle.std.proofs.lemmas.Bool.Decides.{nat_tests}
 use Rattle.rules.specs.Lists.{pick}
 use Rattle.rules.specs.Examples.{Example}
 use Rattle.rules.proofs.Tests.{pick_both}
-use Rattle.candidates.specs.Moves.{fit, at_end_lem, start}
+use Rattle.candidates.specs.Moves.{fit, at_end, start}
 use Rattle.candidates.specs.Rows.{small_examples}
 use Rattle.candidates.specs.Candidates.{count}
 use Rattle.candidates.specs.Problem.{View, count_in, all_at_end, greatest}
@@ -123,7 +123,7 @@ module _ (x : Example) (rest : List Example) (asked : List (List ℕ)) (v : View
     pub begun_agrees : (fs : List Frame) → length fs ≡ 8 → machine_of (held_begun v fs) ≡ machines.begun the_guided
     unfolding stack_of
     begun_agrees fs e =
-        pick_agrees (all_at_end v v.examples start) (at_end_lem (x ∷ rest) start) (held Found 0 0 0 fs) (round_with (greatest v 8 v.examples start) fs)
+        pick_agrees (all_at_end v v.examples start) (at_end (x ∷ rest) start) (held Found 0 0 0 fs) (round_with (greatest v 8 v.examples start) fs)
         (machines.machine machines.found_it 0 0 []) (machines.next_round the_guided (greatest v 8 v.examples start))
         (end_agrees (x ∷ rest) asked v laid start (fit_start (x ∷ rest) few)) refl (λ _. round_agrees (greatest v 8 v.examples start) fs e)
 

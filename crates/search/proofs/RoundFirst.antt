@@ -177,7 +177,7 @@ module _ {S : Type 0} (g : Guided S) (fit : S → Bool) (most : ℕ) (sound : So
                 on_with (smaller n (needed g k c t - w)) (grind (arith, nat_tests)) (grind (arith, nat_tests)) (λ _ q y. let low = guided q y in grind (arith, nat_tests))
 
             at_small : leb (needed g k c t) w ≡ true → P into
-            at_small h = pick_both (g.automaton.accepts t) ends (enters t (w - part_weight c)) P at_end_lem at_deeper
+            at_small h = pick_both (g.automaton.accepts t) ends (enters t (w - part_weight c)) P ends_there at_deeper
               where
                 small : part_weight c ≤ w
                 small = let e = leb-true (needed g k c t) w h in omega arith
@@ -188,8 +188,8 @@ module _ {S : Type 0} (g : Guided S) (fit : S → Bool) (most : ℕ) (sound : So
                 least_behind : NoneBelow g k t (w - part_weight c)
                 least_behind q y = let low = least (c ∷ q) (suffix_more g k s c q (sound.valid s i fits there) goes y) in omega arith
 
-                at_end_lem : g.automaton.accepts t ≡ true → P ends
-                at_end_lem accepts =
+                ends_there : g.automaton.accepts t ≡ true → P ends
+                ends_there accepts =
                     let done : Suffix g k t [] = record { parts = refl; few = omega arith; ok = accepts } in
                     let low = least_behind [] done in
                     behind [] (record { is = done; weighs = omega arith; first = λ q _ _. nothing_earlier (flat part_spelled q) })

@@ -17,7 +17,7 @@ use Rattle.search.specs.declared.status.Status.TheVariants.{Going, Found, NoRule
 
 -- a state is how far each wanted text has been made; a part moves it on; all are at their end where it accepts
 abbrev pub automaton_of : List Example → Automaton (List ℕ)
-automaton_of es = record { start = moves.start; goes = moves.goes es; after = moves.moved es; accepts = moves.at_end_lem es }
+automaton_of es = record { start = moves.start; goes = moves.goes es; after = moves.moved es; accepts = moves.at_end es }
 
 abbrev pub guided_by : List Example → View → Guided (List ℕ)
 guided_by es v = record {

@@ -19,11 +19,11 @@ column-column-requires c =
     let t = length-take (length c.args.wanted.now - j) (drop j c.args.wanted.now) in
     let d = length-drop j c.args.wanted.now in
     record {
-      wanted_len_bound = omega arith;
-      given_len_bound = omega arith;
-      none_above = c.requires.none_above;
-      behind_len = laid_enough c.args.costs.now c.args.given.now c.args.wanted.now c.put_column.new.out room j c.loop-j.out below so;
-      none_above_2 = laid_far c.args.costs.now c.args.given.now c.args.wanted.now c.put_column.new.out room j c.loop-j.out below so;
+      wanted_short = omega arith;
+      given_short = omega arith;
+      costs_small = c.requires.costs_small;
+      nine_behind_each = laid_enough c.args.costs.now c.args.given.now c.args.wanted.now c.put_column.new.out room j c.loop-j.out below so;
+      behind_small = laid_far c.args.costs.now c.args.given.now c.args.wanted.now c.put_column.new.out room j c.loop-j.out below so;
     }
 
 pub loop-j-preserved : goal.loop-j-preserved

@@ -11,8 +11,8 @@ loop-e-init c = refl
 
 pub lay_in_place-requires : goal.lay_in_place-requires
 lay_in_place-requires c =
-    let few = short_read c.args.examples.now c.loop-e.e _ (omega arith) c.requires.examples_value in
-    record { out_len = omega arith; e_bound = omega arith; given_len_bound = few.0; wanted_len_bound = few.1; none_above = c.requires.by_index c.loop-e.e (omega arith) }
+    let few = short_read c.args.examples.now c.loop-e.e _ (omega arith) c.requires.short in
+    record { size = omega arith; one_of_eight = omega arith; given_short = few.0; wanted_short = few.1; costs_small = c.requires.costs_small c.loop-e.e (omega arith) }
 
 pub loop-e-preserved : goal.loop-e-preserved
 loop-e-preserved c =

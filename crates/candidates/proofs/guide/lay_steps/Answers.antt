@@ -24,10 +24,10 @@ along-requires c =
     let k = length-take (65 - (c.loop-x.x + 1)) (drop (c.loop-x.x + 1) c.args.costs.now) in
     let l = length-drop (c.loop-x.x + 1) c.args.costs.now in
     record {
-      wanted_in_bounds = omega arith;
-      given_in_bounds = omega arith;
-      from_bound = c.requires.none_above c.loop-x.x;
-      none_above = none_above_part 255 (65 - (c.loop-x.x + 1)) (c.loop-x.x + 1) c.args.costs.now c.requires.none_above;
+      room_for_wanted = omega arith;
+      a_cost_for_each_given = omega arith;
+      from_small = c.requires.costs_small c.loop-x.x;
+      costs_small = none_above_part 255 (65 - (c.loop-x.x + 1)) (c.loop-x.x + 1) c.args.costs.now c.requires.costs_small;
     }
 
 pub loop-x-preserved : goal.loop-x-preserved
@@ -44,4 +44,4 @@ loop-x-preserved c =
 pub returns : goal.returns
 returns c =
     let laid = cuts_end c.args.costs.now c.args.given.now c.args.wanted.now c.loop-x.x c.loop-x.room (omega arith) c.loop-x.invariant in
-    record { laid = laid; small = subst (λ l. NoneAbove 4177 l) (sym laid) (steps_small c.args.costs.now c.args.given.now c.args.wanted.now c.requires.wanted_len_bound) }
+    record { laid = laid; small = subst (λ l. NoneAbove 4177 l) (sym laid) (steps_small c.args.costs.now c.args.given.now c.args.wanted.now c.requires.wanted_short) }

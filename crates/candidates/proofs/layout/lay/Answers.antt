@@ -10,10 +10,10 @@ use Rattle.candidates.proofs.layout.lay.Goals as goal
 pub lay_guides-requires : goal.lay_guides-requires
 lay_guides-requires c =
     record {
-      out_len = guide_room c.args.numbers.now c.lay_texts.new.out c.requires.size c.lay_texts.auto.out c.lay_rows-rows.new.numbers c.lay_rows-rows.auto.numbers;
-      by_index = subst (λ css. (e : ℕ) → e < 8 → NoneAbove 255 (get_or css e [])) (sym c.all_costs-costs.ensures) (all_costs_small _ c.lay_rows-rows.result);
-      examples_len_bound = c.requires.few;
-      examples_value = c.requires.short;
+      size = guide_room c.args.numbers.now c.lay_texts.new.out c.requires.size c.lay_texts.auto.out c.lay_rows-rows.new.numbers c.lay_rows-rows.auto.numbers;
+      costs_small = subst (λ css. (e : ℕ) → e < 8 → NoneAbove 255 (get_or css e [])) (sym c.all_costs-costs.ensures) (all_costs_small _ c.lay_rows-rows.result);
+      few = c.requires.few;
+      short = c.requires.short;
     }
 
 pub bounds-numbers-1 : goal.bounds-numbers-1

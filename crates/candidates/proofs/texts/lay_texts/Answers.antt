@@ -11,8 +11,8 @@ loop-e-init c = refl
 
 pub put_example-requires : goal.put_example-requires
 put_example-requires c =
-    let few = short_read c.args.examples.now c.loop-e.e _ (omega arith) c.requires.examples_value in
-    record { out_len = omega arith; e_bound = omega arith; given_len_bound = few.0; wanted_len_bound = few.1 }
+    let few = short_read c.args.examples.now c.loop-e.e _ (omega arith) c.requires.short in
+    record { size = omega arith; one_of_eight = omega arith; given_short = few.0; wanted_short = few.1 }
 
 pub loop-e-preserved : goal.loop-e-preserved
 loop-e-preserved c = texts_goes_on c.args.examples.now c.args.out.now c.loop-e.out c.put_example.new.out c.loop-e.e _ (omega arith) c.put_example.ensures c.loop-e.invariant
