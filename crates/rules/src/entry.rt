@@ -19,10 +19,10 @@ pub fn find(text: &[u8], left: u64, right: u64, n: u64, back: u64) -> Reply
     if text.len() > 65535 {
         return Reply::Refused(1);
     }
-    let Some(left_kind) = Kind::numbered(left) else {
+    let Ok(left_kind) = Kind::try_from(left) else {
         return Reply::Refused(2);
     };
-    let Some(right_kind) = Kind::numbered(right) else {
+    let Ok(right_kind) = Kind::try_from(right) else {
         return Reply::Refused(2);
     };
     match nth_spot(text, left_kind, right_kind, n, back == 1) {

@@ -1,8 +1,10 @@
 // What may stand before or behind a place: anything, a run of one kind of bytes, or a sign.
-ghost use Rattle.std.specs.Prelude.{◌≡◌, true, false, MatchOption};
+ghost use Rattle.std.specs.Prelude.{◌≡◌};
 ghost use Rattle.rules.specs.Places.{of_kind};
-ghost use Rattle.rules.specs.Rules.{a_kind};
-ghost use Rattle.rules.specs.Values.{kind_number};
+ghost use Rattle.rules.specs.Values.{kind_number, IsNumberOf, KindOf};
+
+use std::error::Error;
+use std::fmt;
 
 #[derive(Clone, Copy, PartialEq, Eq, Debug)]
 pub enum Kind {
@@ -16,13 +18,24 @@ pub enum Kind {
     Sign(u8),
 }
 
-impl Kind {
-    // The number by which a kind is known: 0 to 5, or 256 and the sign.
-    pub fn number(self) -> u16
-        ensures value { result ≡ kind_number self }
-        ensures right { a_kind result ≡ true }
-    {
-        match self {
+// No kind has this number.
+#[derive(Clone, Copy, PartialEq, Eq, Debug)]
+pub struct NotAKind(pub u64);
+
+impl fmt::Display for NotAKind {
+    fn fmt<W: fmt::Write>(&self, f: &mut fmt::Formatter<W>) -> fmt::Result {
+        write!(f, "no kind has the number {}", self.0)
+    }
+}
+
+impl Error for NotAKind {}
+
+// The number by which a kind is known: 0 to 5, or 256 and the sign.
+impl From<Kind> for u16 {
+    ghost from_gives = { IsNumberOf };
+
+    fn from(kind: Kind) -> u16 {
+        match kind {
             Kind::Anything => 0,
             Kind::Digits => 1,
             Kind::Letters => 2,
@@ -32,23 +45,29 @@ impl Kind {
             Kind::Sign(byte) => 256 + byte as u16,
         }
     }
+}
 
-    // The kind of that number, if there is one.
-    pub fn numbered(number: u64) -> Option<Kind>
-        ensures { MatchOption result (a_kind number ≡ false) (λ k. (kind_number k ≡ number) × (a_kind number ≡ true)) }
-    {
+// The kind of a number, if there is one.
+impl TryFrom<u64> for Kind {
+    type Error = NotAKind;
+
+    ghost try_from_gives = { KindOf };
+
+    fn try_from(number: u64) -> Result<Kind, NotAKind> {
         match number {
-            0 => Some(Kind::Anything),
-            1 => Some(Kind::Digits),
-            2 => Some(Kind::Letters),
-            3 => Some(Kind::Capitals),
-            4 => Some(Kind::SmallLetters),
-            5 => Some(Kind::Blanks),
-            256..=511 => Some(Kind::Sign((number - 256) as u8)),
-            _ => None,
+            0 => Ok(Kind::Anything),
+            1 => Ok(Kind::Digits),
+            2 => Ok(Kind::Letters),
+            3 => Ok(Kind::Capitals),
+            4 => Ok(Kind::SmallLetters),
+            5 => Ok(Kind::Blanks),
+            256..=511 => Ok(Kind::Sign((number - 256) as u8)),
+            _ => Err(NotAKind(number)),
         }
     }
+}
 
+impl Kind {
     // Whether a byte is of this kind. No byte is of the kind `Anything`.
     pub fn has(self, byte: u8) -> bool
         ensures { result ≡ of_kind (kind_number self) byte }

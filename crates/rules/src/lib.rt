@@ -22,7 +22,7 @@ mod worked;
 pub use bytes::all_bytes;
 pub use entry::{Reply, find};
 pub use fault::Fault;
-pub use kind::Kind;
+pub use kind::{Kind, NotAKind};
 pub use part::{Cut, Part};
 pub use place::Place;
 pub use promises::{

@@ -39,7 +39,7 @@ fn nth_fault(left: Kind, right: Kind, n: u8) -> Option<Fault>
     ensures value { result ≡ nth_fault (kind_number left) (kind_number right) n }
     ensures right { (back : Bool) → result ≡ None → a_place (nth_of (kind_number left) (kind_number right) n back) ≡ true }
 {
-    if left.number() + right.number() == 0 {
+    if u16::from(left) + u16::from(right) == 0 {
         Some(Fault::NoKind)
     } else if n == 0 {
         Some(Fault::NthZero)

@@ -26,10 +26,7 @@ fn read_kind(high: u8, low: u8) -> Result<Kind, Fault>
     ensures { MatchResult result (λ k. (kind_number k ≡ number high low) × (a_kind (number high low) ≡ true)) (λ f. (f ≡ KindNumber (number high low)) × (a_kind (number high low) ≡ false)) }
 {
     let number = 256 * high as u16 + low as u16;
-    match Kind::numbered(number as u64) {
-        Some(kind) => Ok(kind),
-        None => Err(Fault::KindNumber(number)),
-    }
+    Kind::try_from(number as u64).map_err(|_| Fault::KindNumber(number))
 }
 
 // Whether a byte says that places are counted from the end.

@@ -69,8 +69,8 @@ fn put_place(out: &mut [u8], at: usize, place: Place) -> usize
             n,
             back,
         } => {
-            let l = left.number();
-            let r = right.number();
+            let l = u16::from(left);
+            let r = u16::from(right);
             put(
                 out,
                 at,
