@@ -6,7 +6,6 @@ use Rattle.rules.specs.Lists.{every}
 use Rattle.rules.specs.Places.{Place, from_first, from_last, nth_of}
 use Rattle.rules.specs.Rules.{Part, bytes, cut, Rule, a_kind, a_place, a_part, a_rule}
 use Rattle.rules.specs.declared.fault.Fault.{Fault}
-use Rattle.rules.proofs.FaultsTell.{first_right, last_right}
 
 place_faultless : (p : Place) → a_place p ≡ true → place_fault p ≡ None
 unfolding a_place
@@ -48,8 +47,8 @@ neither_fault (Some f) g h = grind arith
 
 place_there : (p : Place) → place_sound p ≡ true → place_fault p ≡ None → a_place p ≡ true
 unfolding a_place
-place_there (from_first n) k h = first_right n h
-place_there (from_last n) k h = last_right n h
+place_there (from_first n) k h = grind arith
+place_there (from_last n) k h = grind arith
 place_there (nth_of l r n back) k h = and_from _ _ k (grind arith)
 
 part_there : (p : Part) → part_sound p ≡ true → part_fault p ≡ None → a_part p ≡ true

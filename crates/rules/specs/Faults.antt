@@ -1,5 +1,5 @@
 -- What is wrong with what was taken for a rule: the first fault, from its beginning, or none. Assumes nothing: these are definitions.
-use Rattle.std.specs.Prelude.{ℕ, ◌+◌, [], ◌∷◌, length, Some, None, Option, ◌==◌, nat_le}
+use Rattle.std.specs.Prelude.{ℕ, ◌+◌, [], ◌∷◌, length, Some, None, Ok, Err, Option, Result, ◌==◌, nat_le}
 use Rattle.rules.specs.Lists.{pick}
 use Rattle.rules.specs.Places.{Place, from_first, from_last, nth_of}
 use Rattle.rules.specs.Rules.{Part, bytes, cut, Rule}
@@ -35,3 +35,8 @@ parts_fault (p ∷ ps) = or_else (part_fault p) (parts_fault ps)
 
 abbrev pub rule_fault : Rule → Option Fault
 rule_fault r = pick (nat_le (length r) 8) (parts_fault r) (Some (PartCount (length r)))
+
+-- what a check says: no more where there is no fault, else the fault
+abbrev pub checked : Option Fault → Result Unit Fault
+checked None = Ok tt
+checked (Some f) = Err f

@@ -1,6 +1,6 @@
 // A part of a rule: some bytes, or what is cut from the text.
-ghost use Rattle.std.specs.Prelude.{◌≡◌, true, length, None};
-ghost use Rattle.rules.specs.Faults.{part_fault, literal_fault};
+ghost use Rattle.std.specs.Prelude.{◌≡◌, true, length, OnOk};
+ghost use Rattle.rules.specs.Faults.{checked, part_fault, literal_fault};
 ghost use Rattle.rules.specs.Rules.{bytes, a_part};
 ghost use Rattle.rules.specs.Values.{the_part};
 
@@ -21,31 +21,32 @@ pub enum Part {
     Cut(Cut),
 }
 
-// What is wrong with a literal, if anything.
-fn literal_fault(literal: &[u8]) -> Option<Fault>
-    ensures value { result ≡ literal_fault (length literal.now) }
-    ensures right { result ≡ None → a_part (bytes literal.now) ≡ true }
+// Whether a literal has as many bytes as it may have.
+#[tactic(auto, using(crate::proofs::FaultsTell::literal_right))]
+fn check_literal(literal: &[u8]) -> Result<(), Fault>
+    ensures value { result ≡ checked (literal_fault (length literal.now)) }
+    ensures right { OnOk result (a_part (bytes literal.now) ≡ true) }
 {
     all_bytes(literal);
-    if literal.len() == 0 || literal.len() > 64 {
-        Some(Fault::LiteralLength(literal.len()))
-    } else {
-        None
+    match literal.len() {
+        1..=64 => Ok(()),
+        n => Err(Fault::LiteralLength(n)),
     }
 }
 
 impl Part {
-    // What is wrong with the part, if anything.
-    pub fn fault(&self) -> Option<Fault>
-        ensures value { result ≡ part_fault (the_part self.now) }
-        ensures right { result ≡ None → a_part (the_part self.now) ≡ true }
+    // Whether this is a part that a rule may have, and if not, what is wrong with it.
+    #[tactic(auto, unfolding(crate::specs::Rules::a_part))]
+    pub fn check(&self) -> Result<(), Fault>
+        ensures value { result ≡ checked (part_fault (the_part self.now)) }
+        ensures right { OnOk result (a_part (the_part self.now) ≡ true) }
     {
         match self {
-            Part::Bytes(literal) => literal_fault(literal.as_slice()),
-            Part::Cut(cut) => match cut.from.fault() {
-                Some(fault) => Some(fault),
-                None => cut.to.fault(),
-            },
+            Part::Bytes(literal) => check_literal(literal),
+            Part::Cut(cut) => {
+                cut.from.check()?;
+                cut.to.check()
+            }
         }
     }
 }

@@ -1,6 +1,6 @@
 // A place in a text.
-ghost use Rattle.std.specs.Prelude.{◌≡◌, Bool, true, None};
-ghost use Rattle.rules.specs.Faults.{place_fault, number_fault, nth_fault};
+ghost use Rattle.std.specs.Prelude.{◌≡◌, Bool, true, OnOk};
+ghost use Rattle.rules.specs.Faults.{checked, place_fault, number_fault, nth_fault};
 ghost use Rattle.rules.specs.Places.{nth_of};
 ghost use Rattle.rules.specs.Rules.{a_place};
 ghost use Rattle.rules.specs.Values.{kind_number, the_place};
@@ -23,45 +23,44 @@ pub enum Place {
     },
 }
 
-// What is wrong with the number of a place, if anything.
-fn number_fault(n: u8) -> Option<Fault>
-    ensures { result ≡ number_fault n }
+// Whether a place may have this number.
+fn check_number(n: u8) -> Result<(), Fault>
+    ensures { result ≡ checked (number_fault n) }
 {
-    if n <= 64 {
-        None
-    } else {
-        Some(Fault::PlaceNumber(n))
+    if n > 64 {
+        return Err(Fault::PlaceNumber(n));
     }
+    Ok(())
 }
 
-// What is wrong with an nth place, if anything.
-fn nth_fault(left: Kind, right: Kind, n: u8) -> Option<Fault>
-    ensures value { result ≡ nth_fault (kind_number left) (kind_number right) n }
-    ensures right { (back : Bool) → result ≡ None → a_place (nth_of (kind_number left) (kind_number right) n back) ≡ true }
+// Whether there is an nth place of these kinds.
+#[tactic(auto, unfolding(crate::specs::Rules::a_place))]
+fn check_nth(left: Kind, right: Kind, n: u8) -> Result<(), Fault>
+    ensures value { result ≡ checked (nth_fault (kind_number left) (kind_number right) n) }
+    ensures right { (back : Bool) → OnOk result (a_place (nth_of (kind_number left) (kind_number right) n back) ≡ true) }
 {
-    if u16::from(left) + u16::from(right) == 0 {
-        Some(Fault::NoKind)
-    } else if n == 0 {
-        Some(Fault::NthZero)
-    } else {
-        number_fault(n)
+    match (left, right, n) {
+        (Kind::Anything, Kind::Anything, _) => Err(Fault::NoKind),
+        (_, _, 0) => Err(Fault::NthZero),
+        _ => check_number(n),
     }
 }
 
 impl Place {
-    // What is wrong with the place, if anything.
-    pub fn fault(self) -> Option<Fault>
-        ensures value { result ≡ place_fault (the_place self) }
-        ensures right { result ≡ None → a_place (the_place self) ≡ true }
+    // Whether this is a place that a rule may have, and if not, what is wrong with it.
+    #[tactic(auto, unfolding(crate::specs::Rules::a_place))]
+    pub fn check(self) -> Result<(), Fault>
+        ensures value { result ≡ checked (place_fault (the_place self)) }
+        ensures right { OnOk result (a_place (the_place self) ≡ true) }
     {
         match self {
-            Place::FromFirst(n) | Place::FromLast(n) => number_fault(n),
+            Place::FromFirst(n) | Place::FromLast(n) => check_number(n),
             Place::NthOf {
                 left,
                 right,
                 n,
                 back: _,
-            } => nth_fault(left, right, n),
+            } => check_nth(left, right, n),
         }
     }
 }
