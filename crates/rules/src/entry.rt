@@ -1,32 +1,56 @@
-// The entry that finds a place in a text, on plain numbers.
+// The entry that finds a place in a text. Its arguments are plain numbers by design: a kind goes by its number, and `back` is 1 or not.
+ghost use Rattle.std.specs.Prelude.{◌≡◌};
 ghost use Rattle.rules.specs.Entry.{FindSays, refusal};
+ghost use Rattle.rules.specs.declared.entry.FindRefusal.TheVariants.{NoKind};
 
-use crate::kind::Kind;
+use std::error::Error;
+use std::fmt;
+
+use crate::kind::{Kind, NotAKind};
 use crate::spot::nth_spot;
 
+// Why a place is not looked for.
 #[derive(Clone, Copy, PartialEq, Eq, Debug)]
-pub enum Reply {
-    At(u64),
-    Nowhere,
-    // The number of the refusal: 1 the text is too long, 2 a kind is none.
-    Refused(u64),
+pub enum FindRefusal {
+    // The text is longer than 65,535 bytes.
+    TooLong,
+    // A number is that of no kind.
+    NoKind,
+}
+
+impl fmt::Display for FindRefusal {
+    fn fmt<W: fmt::Write>(&self, f: &mut fmt::Formatter<W>) -> fmt::Result {
+        f.write_str(match self {
+            FindRefusal::TooLong => "the text is longer than 65535 bytes",
+            FindRefusal::NoKind => "a number is that of no kind",
+        })
+    }
+}
+
+impl Error for FindRefusal {}
+
+impl From<NotAKind> for FindRefusal {
+    ghost from_gives = { λ _ r. r ≡ NoKind };
+
+    fn from(_e: NotAKind) -> FindRefusal {
+        FindRefusal::NoKind
+    }
 }
 
 // Where the nth place is before which there is a kind `left` and behind which there is a kind `right`, by their numbers; from the end if `back` is 1.
-pub fn find(text: &[u8], left: u64, right: u64, n: u64, back: u64) -> Reply
+pub fn find(
+    text: &[u8],
+    left: u64,
+    right: u64,
+    n: u64,
+    back: u64,
+) -> Result<Option<usize>, FindRefusal>
     ensures { FindSays text.now left right n back (refusal text.now left right) result }
 {
     if text.len() > 65535 {
-        return Reply::Refused(1);
+        return Err(FindRefusal::TooLong);
     }
-    let Ok(left_kind) = Kind::try_from(left) else {
-        return Reply::Refused(2);
-    };
-    let Ok(right_kind) = Kind::try_from(right) else {
-        return Reply::Refused(2);
-    };
-    match nth_spot(text, left_kind, right_kind, n, back == 1) {
-        Some(at) => Reply::At(at as u64),
-        None => Reply::Nowhere,
-    }
+    let left = Kind::try_from(left)?;
+    let right = Kind::try_from(right)?;
+    Ok(nth_spot(text, left, right, n, back == 1))
 }

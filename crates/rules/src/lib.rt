@@ -20,7 +20,7 @@ mod spot;
 mod worked;
 
 pub use bytes::all_bytes;
-pub use entry::{Reply, find};
+pub use entry::{FindRefusal, find};
 pub use fault::Fault;
 pub use kind::{Kind, NotAKind};
 pub use part::{Cut, Part};
