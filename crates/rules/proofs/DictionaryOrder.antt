@@ -1,6 +1,9 @@
 -- The order of a dictionary is an order: no list comes before itself, it is transitive, and of two lists that differ one comes first.
 use Rattle.std.proofs.Common.{◌≡◌, ℕ, true, false, List, [], ◌∷◌, refl, arith}
 use Rattle.std.proofs.lemmas.Bool.Decides.{nat_tests}
+use Rattle.std.proofs.lemmas.Cmp.{same_from_slice_cmp}
+use Rattle.std.specs.Cmp.Lexicographic.{slice_cmp}
+use Rattle.std.specs.Ordering.{nat_cmp, is_lt}
 use Rattle.rules.specs.Lists.{earlier}
 
 pub earlier_irrefl : (xs : List ℕ) → earlier xs xs ≡ false
@@ -23,3 +26,8 @@ earlier_total [] [] h k = refl
 earlier_total [] (y ∷ ys) h k = grind arith
 earlier_total (x ∷ xs) [] h k = grind arith
 earlier_total (x ∷ xs) (y ∷ ys) h k = let ih = earlier_total xs ys in grind (arith, nat_tests)
+
+-- it is the library's order on texts
+pub earlier_is : (xs ys : List ℕ) → is_lt (slice_cmp nat_cmp xs ys) ≡ earlier xs ys
+unfolding earlier
+earlier_is xs ys = same_from_slice_cmp nat_cmp is_lt earlier refl (λ _ _. refl) (λ _ _. refl) (λ x y xs ys o h. grind (arith, nat_tests)) xs ys _ refl

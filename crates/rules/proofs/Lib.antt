@@ -19,7 +19,6 @@ pub mod FaultsTell
 pub mod WrittenBytes
 pub mod MakesInto
 pub mod SumOverParts
-pub mod EarlierStep
 pub mod SpellsParts
 pub mod ReadsBytes
 pub mod ReadsParts

@@ -2,9 +2,10 @@
 use Rattle.std.proofs.Common.{◌≡◌, ◌<◌, ◌≤◌, Bool, true, false, arith}
 use Rattle.std.proofs.lemmas.Bool.Decides.{nat_tests}
 use Rattle.rules.specs.Rules.{Rule, cost, a_rule}
-use Rattle.rules.specs.Order.{rule_spelled, rule_before, First}
+use Rattle.std.specs.Ordering.{is_lt}
+use Rattle.rules.specs.Order.{rule_spelled, rule_before, rule_cmp, First}
 use Rattle.rules.specs.Promises.{FirstOne}
-use Rattle.rules.proofs.DictionaryOrder.{earlier_irrefl, earlier_trans, earlier_total}
+use Rattle.rules.proofs.DictionaryOrder.{earlier_irrefl, earlier_trans, earlier_total, earlier_is}
 use Rattle.rules.proofs.SpellingPrefixFree.{spelled_apart}
 
 pub before_irrefl : (r : Rule) → rule_before r r ≡ false
@@ -18,6 +19,10 @@ before_total a b h k =
     let t = earlier_total (rule_spelled a) (rule_spelled b) in
     let e : rule_spelled a ≡ rule_spelled b = grind (arith, nat_tests) in
     spelled_apart a b e
+
+-- it is the order in which rules are compared
+pub before_is : (a b : Rule) → is_lt (rule_cmp a b) ≡ rule_before a b
+before_is a b = let e = earlier_is (rule_spelled a) (rule_spelled b) in grind (arith, nat_tests)
 
 -- what costs less comes before
 pub cheaper_before : (a b : Rule) → cost a < cost b → rule_before a b ≡ true

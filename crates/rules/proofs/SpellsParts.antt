@@ -1,13 +1,12 @@
 -- Going through the parts of a rule spells it.
-use Rattle.std.proofs.Common.{◌≡◌, ℕ, ◌+◌, ◌*◌, ◌<◌, ◌≤◌, true, leb, List, [], ◌∷◌, ◌++◌, length, get_or, take, drop, Ok, Err, sym, refl, ap, ◌∙◌, ap₂, append_assoc, append-nil, arith, length-append}
-use Rattle.std.proofs.lemmas.List.{take-append-drop, take_all, take_at}
+use Rattle.std.proofs.Common.{◌≡◌, ℕ, ◌+◌, ◌*◌, ◌<◌, ◌≤◌, true, leb, List, [], ◌∷◌, ◌++◌, length, get_or, take, drop, Ok, Err, IsOk, sym, refl, ap, ◌∙◌, append_assoc, append-nil, arith, length-append}
+use Rattle.std.proofs.lemmas.List.{take-append-drop, take_all}
 use Rattle.std.proofs.lemmas.Bool.{le-leb, leb-true, and_parts}
 use Rattle.rules.specs.Answers.{written, written_told, written_left}
 use Rattle.rules.specs.Lists.{pick, every, flat}
 use Rattle.rules.specs.Places.{Place, from_first, from_last, nth_of}
 use Rattle.rules.specs.Order.{place_spelled, part_spelled, rule_spelled}
 use Rattle.rules.specs.Rules.{Part, bytes, cut, Rule, a_part, a_rule}
-use Rattle.rules.specs.declared.room.NoRoom.{NoRoom}
 use Rattle.rules.specs.Values.{the_part, the_parts}
 use Rattle.rules.specs.declared.part.Part as declared
 use Rattle.rules.proofs.EachElement.{each_append, each_past, each_length}
@@ -120,18 +119,9 @@ rule_bound r h =
     let k = parts_bound r both.1 in
     omega arith
 
--- so in as many lent bytes it stands in front
-pub spelled_in_front : (r : Rule) (out after : List ℕ) (n : ℕ) → a_rule r ≡ true → length out ≡ 529 → Ok n ≡ written_told (rule_spelled r) (length out) → after ≡ written_left (rule_spelled r) out → (n ≤ 529) × (take n after ≡ rule_spelled r)
-spelled_in_front r out after n h e v a =
+-- so in as many bytes there is room
+pub spelling_fits : (r : Rule) (room : ℕ) → a_rule r ≡ true → room ≡ 529 → IsOk (written_told (rule_spelled r) room)
+spelling_fits r room h e =
     let k = rule_bound r h in
-    let told = told_with_room (rule_spelled r) out (omega arith) in
-    let long : n ≡ length (rule_spelled r) = let same = v ∙ told.0 in cc in
-    (omega arith, ap₂ take long (a ∙ told.1) ∙ take_at (rule_spelled r) _ _ refl)
-
-pub spelled_has_room : (r : Rule) (out : List ℕ) (x : NoRoom) → a_rule r ≡ true → length out ≡ 529 → Err x ≡ written_told (rule_spelled r) (length out) → ⊥
-spelled_has_room r out x h e v =
-    let k = rule_bound r h in
-    let told = told_with_room (rule_spelled r) out (omega arith) in
-    let same = v ∙ told.0 in
-    let z : ◌≡◌ {A = ℕ} 0 1 = cc in
-    omega arith
+    let fits = le-leb (length (rule_spelled r)) room (omega arith) in
+    rw fits
