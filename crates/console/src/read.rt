@@ -10,7 +10,7 @@ use crate::expected::Expected;
 use crate::failed::{Failed, Stopped};
 use crate::not_a_rule::NotARule;
 use crate::read_place::read_place;
-use crate::scan::{Reading, read_byte, strip};
+use crate::scan::{Reading, expect, read_byte, strip};
 use crate::words;
 use rules::{Cut, Part, Rule};
 use std::alloc::Global;
@@ -38,17 +38,17 @@ fn read_literal(heap: Global, text: &[u8]) -> Result<(Vec<u8>, &[u8]), Stopped>
 }
 
 // What follows "from ".
+#[tactic(auto, unfolding(crate::specs::Reading::read_cut))]
 fn read_cut(text: &[u8]) -> Reading<'_, Part>
     ensures { Tells the_part (read_cut text.now) result }
 {
     let (from, rest) = read_place(text)?;
-    let Some(rest) = strip(words::to_words(from), rest) else {
-        return Err(Failed::at(rest, Expected::To));
-    };
+    let rest = expect(words::to_words(from), rest, Expected::To)?;
     let (to, rest) = read_place(rest)?;
     Ok((Part::Cut(Cut { from, to }), rest))
 }
 
+#[tactic(auto, unfolding(crate::specs::Reading::read_part))]
 fn read_part(heap: Global, text: &[u8]) -> Result<(Part, &[u8]), Stopped>
     ensures { TellsMade the_part (read_part text.now) result }
 {
@@ -56,9 +56,7 @@ fn read_part(heap: Global, text: &[u8]) -> Result<(Part, &[u8]), Stopped>
         let (bytes, rest) = read_literal(heap, rest)?;
         return Ok((Part::Bytes(bytes), rest));
     }
-    let Some(rest) = strip(b"from ", text) else {
-        return Err(Stopped::Failed(Failed::at(text, Expected::Part)));
-    };
+    let rest = expect(b"from ", text, Expected::Part)?;
     Ok(read_cut(rest)?)
 }
 

@@ -1,5 +1,5 @@
 // Words, bytes and numbers read from text.
-ghost use Rattle.std.specs.Prelude.{◌≡◌, ◌<◌, drop, IfOk, Some, None, MatchOption};
+ghost use Rattle.std.specs.Prelude.{◌≡◌, ◌<◌, drop, length, IfOk, IfErr, Some, None, MatchOption};
 ghost use Rattle.console.specs.Reading.{strip, front, begins_number, read_second, past_second, read_digit, read_hex, read_escaped, read_byte, read_number};
 ghost use Rattle.console.specs.Told.{Tells};
 
@@ -15,6 +15,16 @@ pub fn strip<'a>(word: &[u8], text: &'a [u8]) -> Option<&'a [u8]>
     ensures { MatchOption result (strip word.now text.now ≡ None) (λ rest. strip word.now text.now ≡ Some rest.now) }
 {
     text.strip_prefix(word)
+}
+
+// The text after a word that has to stand there.
+pub fn expect<'a>(word: &[u8], text: &'a [u8], wanted: Expected) -> Result<&'a [u8], Failed>
+    ensures ok { IfOk result (λ rest. strip word.now text.now ≡ Some rest.now) }
+    ensures none { IfErr result (λ _. strip word.now text.now ≡ None) }
+    ensures left { IfErr result (λ f. f.left ≡ length text.now) }
+    ensures expected { IfErr result (λ f. f.expected ≡ wanted) }
+{
+    strip(word, text).ok_or(Failed::at(text, wanted))
 }
 
 // A hexadecimal digit.
