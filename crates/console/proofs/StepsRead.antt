@@ -1,5 +1,5 @@
 -- The bytes of a literal and the parts of a rule are read by a loop: one turn of it.
-use Rattle.std.proofs.Common.{◌≡◌, ℕ, zero, suc, ◌-◌, List, [], ◌∷◌, ◌++◌, length, Some, None, codes, sym, refl, ap, ◌∙◌, sub-one, arith}
+use Rattle.std.proofs.Common.{◌≡◌, ℕ, zero, suc, ◌+◌, ◌-◌, ◌<◌, ◌≤◌, List, [], ◌∷◌, ◌++◌, length, Some, None, codes, sym, refl, ap, ◌∙◌, sub-one, arith}
 use Rattle.rules.specs.declared.part.Part as declared
 use Rattle.rules.specs.Values.{the_part, the_parts}
 use Rattle.rules.specs.Rules.{Part, Rule}
@@ -7,30 +7,18 @@ use Rattle.console.specs.declared.expected.Expected.{Expected}
 use Rattle.console.specs.declared.expected.Expected.TheVariants.{Quote}
 use Rattle.console.specs.Reading.{read, failed, next, strip, after, read_byte, read_bytes, read_part, read_end, read_parts, read_rule}
 
--- what a literal's bytes are read as, where the closing quote comes, and where it does not
-pub bytes_end : (n : ℕ) (so_far t rest : List ℕ) → strip (codes "\"") t ≡ Some rest → read_bytes n so_far t ≡ read so_far rest
+-- what a literal's bytes are read as while there is room for more, and where there is none
+pub bytes_turn : (n i : ℕ) (so_far t : List ℕ) → i < n → read_bytes (n - i) so_far t ≡ after (strip (codes "\"") t) (read so_far) (next (read_byte t) (λ c u. read_bytes (n - (i + 1)) (so_far ++ c ∷ []) u))
 unfolding read_bytes
-bytes_end zero so_far t rest s = rw s
-bytes_end (suc n) so_far t rest s = rw s
+bytes_turn n i so_far t h = step (n - i) (n - (i + 1)) (omega arith)
+  where
+    step : (k j : ℕ) → k ≡ suc j → read_bytes k so_far t ≡ after (strip (codes "\"") t) (read so_far) (next (read_byte t) (λ c u. read_bytes j (so_far ++ c ∷ []) u))
+    step zero j e = absurd (omega arith)
+    step (suc k) j e = let same : k ≡ j = omega arith in ap (λ m. after (strip (codes "\"") t) (read so_far) (next (read_byte t) (λ c u. read_bytes m (so_far ++ c ∷ []) u))) same
 
-pub bytes_full : (n : ℕ) (so_far t : List ℕ) → n ≡ 0 → strip (codes "\"") t ≡ None → read_bytes n so_far t ≡ failed (length t) Quote
+pub bytes_end : (n i : ℕ) (so_far t : List ℕ) → n ≤ i → read_bytes (n - i) so_far t ≡ after (strip (codes "\"") t) (read so_far) (failed (length t) Quote)
 unfolding read_bytes
-bytes_full zero so_far t e s = rw s
-bytes_full (suc n) so_far t e s = absurd (omega arith)
-
-pub bytes_more : (n : ℕ) (so_far t : List ℕ) → (n ≡ 0 → ⊥) → strip (codes "\"") t ≡ None → read_bytes n so_far t ≡ next (read_byte t) (λ c u. read_bytes (n - 1) (so_far ++ c ∷ []) u)
-unfolding read_bytes
-bytes_more zero so_far t e s = absurd (e refl)
-bytes_more (suc n) so_far t e s =
-    ap (λ o. after o (read so_far) (next (read_byte t) (λ c u. read_bytes n (so_far ++ c ∷ []) u))) s
-    ∙ ap (λ m. next (read_byte t) (λ c u. read_bytes m (so_far ++ c ∷ []) u)) (sym (sub-one (suc n)))
-
-pub bytes_next : (n : ℕ) (so_far bytes t u : List ℕ) (c : ℕ) → (n ≡ 0 → ⊥) → strip (codes "\"") t ≡ None → read_byte t ≡ read c u → bytes ≡ so_far ++ c ∷ [] → read_bytes (n - 1) bytes u ≡ read_bytes n so_far t
-bytes_next n so_far bytes t u c e s one more =
-    ap (λ l. read_bytes (n - 1) l u) more ∙ sym (bytes_more n so_far t e s ∙ ap (λ x. next x (λ d v. read_bytes (n - 1) (so_far ++ d ∷ []) v)) one)
-
-pub bytes_fail : (n : ℕ) (so_far t : List ℕ) (left : ℕ) (x : Expected) → (n ≡ 0 → ⊥) → strip (codes "\"") t ≡ None → read_byte t ≡ failed left x → read_bytes n so_far t ≡ failed left x
-bytes_fail n so_far t left x e s one = bytes_more n so_far t e s ∙ ap (λ r. next r (λ d v. read_bytes (n - 1) (so_far ++ d ∷ []) v)) one
+bytes_end n i so_far t h = let none : n - i ≡ 0 = omega arith in ap (λ k. read_bytes k so_far t) none
 
 -- a rule's parts, where "; " comes, and where it does not
 pub parts_more : (n : ℕ) (so_far : Rule) (t u : List ℕ) → (n ≡ 0 → ⊥) → strip (codes "; ") t ≡ Some u → read_parts n so_far t ≡ next (read_part u) (λ p v. read_parts (n - 1) (so_far ++ p ∷ []) v)

@@ -1,8 +1,7 @@
 // Rules read from text.
-ghost use Rattle.std.specs.Prelude.{◌≡◌, true, [], vec_items, MatchResult};
-ghost use Rattle.rules.specs.Rules.{a_rule};
+ghost use Rattle.std.specs.Prelude.{◌≡◌, [], vec_items, IfOk, IfErr, MatchResult};
 ghost use Rattle.rules.specs.Values.{the_part, the_parts};
-ghost use Rattle.console.specs.Reading.{read, read_literal, read_cut, read_part, read_end, read_rule};
+ghost use Rattle.console.specs.Reading.{read, failed, read_literal, read_cut, read_part, read_end, read_rule};
 ghost use Rattle.console.specs.Told.{Tells, TellsMade, TellsAll, Stops, Refuses};
 ghost use Rattle.rules.specs.Held.{the_rule};
 
@@ -16,25 +15,23 @@ use rules::{Cut, Part, Rule};
 use std::alloc::Global;
 
 // What follows the opening quote of a literal: 1 to 64 bytes, and the closing quote.
+#[tactic(auto, using(crate::proofs::StepsRead::bytes_turn, crate::proofs::StepsRead::bytes_end), unfolding(crate::specs::Reading::read_literal))]
 fn read_literal(heap: Global, text: &[u8]) -> Result<(Vec<u8>, &[u8]), Stopped>
     ensures { TellsMade vec_items (read_literal text.now) result }
 {
     let (first, mut rest) = read_byte(text)?;
     let mut bytes = Vec::new(heap);
     bytes.push(first)?;
-    let mut room: u8 = 63;
-    loop {
+    for _ in 0..63u8 {
         if let Some(after) = strip(b"\"", rest) {
             return Ok((bytes, after));
-        }
-        if room == 0 {
-            return Err(Stopped::Failed(Failed::at(rest, Expected::Quote)));
         }
         let (byte, after) = read_byte(rest)?;
         bytes.push(byte)?;
         rest = after;
-        room -= 1;
     }
+    let rest = expect(b"\"", rest, Expected::Quote)?;
+    Ok((bytes, rest))
 }
 
 // What follows "from ".
@@ -60,47 +57,38 @@ fn read_part(heap: Global, text: &[u8]) -> Result<(Part, &[u8]), Stopped>
     Ok(read_cut(rest)?)
 }
 
-// These parts, if the text ends here.
-fn read_end(parts: Vec<Part>, text: &[u8]) -> Result<Vec<Part>, Stopped>
-    ensures { TellsAll (λ v. the_parts v.items) (read_end (the_parts parts.items) text.now) result }
+// That the text ends here.
+fn read_end(text: &[u8]) -> Result<(), Failed>
+    ensures ended { IfOk result (λ _. text.now ≡ []) }
+    ensures goes_on { IfErr result (λ f. (so_far : _) → read_end so_far text.now ≡ failed f.left f.expected) }
 {
-    if text.len() > 0 {
-        return Err(Stopped::Failed(Failed::at(text, Expected::End)));
+    if text.is_empty() {
+        Ok(())
+    } else {
+        Err(Failed::at(text, Expected::End))
     }
-    Ok(parts)
 }
 
 fn read_parts(heap: Global, text: &[u8]) -> Result<Vec<Part>, Stopped>
     ensures { TellsAll (λ v. the_parts v.items) (read_rule text.now) result }
 {
     if let Some(rest) = strip(b"no parts", text) {
-        return read_end(Vec::new(heap), rest);
+        read_end(rest)?;
+        return Ok(Vec::new(heap));
     }
     let (first, mut rest) = read_part(heap, text)?;
     let mut parts = Vec::new(heap);
     parts.push(first)?;
-    let mut room: u8 = 7;
-    while room > 0 {
+    for _ in 0..7u8 {
         let Some(after) = strip(b"; ", rest) else {
-            return read_end(parts, rest);
+            break;
         };
         let (part, after) = read_part(heap, after)?;
         parts.push(part)?;
         rest = after;
-        room -= 1;
     }
-    read_end(parts, rest)
-}
-
-// The rule of parts that make one.
-fn the_rule(parts: Vec<Part>) -> Rule
-    requires { a_rule (the_parts parts.items) ≡ true }
-    ensures { result.parts.items ≡ parts.items }
-{
-    match Rule::new(parts) {
-        Ok(rule) => rule,
-        Err(_) => unreachable(),
-    }
+    read_end(rest)?;
+    Ok(parts)
 }
 
 // Why the text is refused, where reading it stopped.
@@ -121,8 +109,6 @@ fn refused(text: &[u8], stopped: Stopped) -> NotARule
 pub fn read_rule(heap: Global, text: &[u8]) -> Result<Rule, NotARule>
     ensures { MatchResult result (λ rule. read_rule text.now ≡ read (the_rule rule) []) (Refuses text.now) }
 {
-    match read_parts(heap, text) {
-        Ok(parts) => Ok(the_rule(parts)),
-        Err(stopped) => Err(refused(text, stopped)),
-    }
+    let parts = read_parts(heap, text).map_err(|stopped| refused(text, stopped))?;
+    Ok(Rule::new(parts).unwrap())
 }
