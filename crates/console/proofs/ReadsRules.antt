@@ -5,6 +5,8 @@ use Rattle.std.proofs.lemmas.Bool.{and_parts, and_from, le-leb}
 use Rattle.rules.specs.Lists.{pick, between, every}
 use Rattle.rules.specs.Places.{from_first, from_last, nth_of}
 use Rattle.rules.specs.Rules.{bytes, cut, Rule, a_kind, a_place, a_part, a_rule}
+use Rattle.rules.specs.Faults.{rule_fault}
+use Rattle.rules.proofs.FaultlessRules.{rule_faultless}
 use Rattle.rules.proofs.FaultsTell.{literal_right}
 use Rattle.rules.proofs.EachElement.{every_push}
 use Rattle.console.specs.declared.expected.Expected.{Expected}
@@ -213,6 +215,10 @@ module _ (whole : ℕ) where
 
 pub reads_rules : ReadsRules
 reads_rules t r rest e = (subst (Gives (length t) a_rule) e (rule_gives (length t) t (omega arith))).0
+
+-- so parts that are read have no fault
+pub read_faultless : (t : List ℕ) (r : Rule) → read_rule t ≡ read r [] → rule_fault r ≡ None
+read_faultless t r e = rule_faultless r (reads_rules t r [] e)
 
 pub fails_within : FailsWithin
 fails_within t left x e = subst (Gives (length t) a_rule) e (rule_gives (length t) t (omega arith))

@@ -69,6 +69,7 @@ fn read_end(text: &[u8]) -> Result<(), Failed>
     }
 }
 
+#[tactic(auto, using(crate::proofs::StepsRead::parts_turn, crate::proofs::StepsRead::parts_end, crate::proofs::StepsRead::parts_push), unfolding(crate::specs::Reading::read_rule))]
 fn read_parts(heap: Global, text: &[u8]) -> Result<Vec<Part>, Stopped>
     ensures { TellsAll (λ v. the_parts v.items) (read_rule text.now) result }
 {
@@ -92,6 +93,7 @@ fn read_parts(heap: Global, text: &[u8]) -> Result<Vec<Part>, Stopped>
 }
 
 // Why the text is refused, where reading it stopped.
+#[tactic(auto, using(crate::proofs::ReadsRules::fails_within, crate::proofs::ReadsRules::fails_at))]
 fn refused(text: &[u8], stopped: Stopped) -> NotARule
     requires { Stops (read_rule text.now) stopped }
     ensures { Refuses text.now result }
@@ -106,6 +108,7 @@ fn refused(text: &[u8], stopped: Stopped) -> NotARule
 }
 
 // The rule that the text is, or why it is none.
+#[tactic(auto, using(crate::proofs::ReadsRules::read_faultless))]
 pub fn read_rule(heap: Global, text: &[u8]) -> Result<Rule, NotARule>
     ensures { MatchResult result (λ rule. read_rule text.now ≡ read (the_rule rule) []) (Refuses text.now) }
 {
