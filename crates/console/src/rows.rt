@@ -34,6 +34,7 @@ fn add_byte(out: &mut Vec<u8>, byte: u8) -> Result<(), AllocError>
 }
 
 // A text as a row has it.
+#[tactic(auto, using(crate::proofs::Appends::flat_at, crate::proofs::Appends::flat_end))]
 fn add_text(out: &mut Vec<u8>, text: &[u8]) -> Result<(), AllocError>
     ensures { OnOk result (out.new.items ≡ out.old.items ++ escaped text.now) }
 {
