@@ -23,6 +23,7 @@ fn read_sign(text: &[u8]) -> Reading<'_, Kind>
 }
 
 // That a run of a kind ends, or begins.
+#[tactic(auto, using(crate::proofs::RunsRead::run_none))]
 fn read_run(ends: bool, text: &[u8]) -> Reading<'_, Kind>
     ensures { Tells kind_number (read_run ends (1 ∷ 2 ∷ 3 ∷ 4 ∷ 5 ∷ []) text.now) result }
 {
@@ -56,18 +57,10 @@ fn read_kind(ends: bool, text: &[u8]) -> Reading<'_, Kind>
 fn read_behind(left: Kind, n: u8, back: bool, text: &[u8]) -> Reading<'_, Place>
     ensures { Tells the_place (read_behind (kind_number left) n back text.now) result }
 {
-    let Some(rest) = strip(b", and behind which ", text) else {
-        return Ok((
-            Place::NthOf {
-                left,
-                right: Kind::Anything,
-                n,
-                back,
-            },
-            text,
-        ));
+    let (right, rest) = match strip(b", and behind which ", text) {
+        Some(rest) => read_kind(false, rest)?,
+        None => (Kind::Anything, text),
     };
-    let (right, rest) = read_kind(false, rest)?;
     Ok((
         Place::NthOf {
             left,
