@@ -15,6 +15,8 @@ flat_at f xs i d h = at_drop_more (flat f) xs i d h
 pub flat_end : {A B : Type 0} (f : A → List B) (xs : List A) (i : ℕ) → length xs ≤ i → flat f (drop i xs) ≡ []
 flat_end f xs i h = at_drop_all (flat f) xs i h
 
+pub ruleset appends = (flat_at, flat_end)
+
 -- one more append
 pub more : {B : Type 0} (start was out as₁ bs : List B) → was ≡ start ++ as₁ → out ≡ was ++ bs → out ≡ start ++ (as₁ ++ bs)
 more start was out as₁ bs w o = o ∙ ap (λ l. l ++ bs) w ∙ append_assoc start as₁ bs

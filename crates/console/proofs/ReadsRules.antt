@@ -14,7 +14,7 @@ use Rattle.console.specs.declared.expected.Expected.TheVariants.{Part as some_pa
 use Rattle.console.specs.Text.{marked, plain, count_end, ordinal_end, run_text, to_text}
 use Rattle.console.specs.Reading.{Read, read, failed, next, strip, after, front, begins_number, read_digit, read_hex, read_escaped, read_byte, read_bytes, read_literal, read_sign, read_number, read_second, past_second, read_run, read_kind, read_behind, read_sides, read_word, read_ordinal, read_later, read_edge, read_count, read_the, read_place, read_cut, read_part, read_end, read_parts, read_rule}
 use Rattle.console.specs.Promises.{ReadsRules, FailsWithin}
-use Rattle.console.proofs.BytesBack.{pick_both}
+use Rattle.rules.proofs.Tests.{pick_both}
 use Rattle.console.proofs.WordsStrip.{strip_splits}
 
 -- a reading within a text that is so long: what is read, if anything, passes the test, and no more is left than there was

@@ -20,6 +20,8 @@ pub bytes_end : (n i : ℕ) (so_far t : List ℕ) → n ≤ i → read_bytes (n 
 unfolding read_bytes
 bytes_end n i so_far t h = let none : n - i ≡ 0 = omega arith in ap (λ k. read_bytes k so_far t) none
 
+pub ruleset bytes_steps = (bytes_turn, bytes_end)
+
 -- and so a rule's parts
 pub parts_turn : (n i : ℕ) (so_far : Rule) (t : List ℕ) → i < n → read_parts (n - i) so_far t ≡ after (strip (codes "; ") t) (λ u. next (read_part u) (λ p v. read_parts (n - (i + 1)) (so_far ++ p ∷ []) v)) (read_end so_far t)
 unfolding read_parts
@@ -36,3 +38,5 @@ parts_end n i so_far t h = let none : n - i ≡ 0 = omega arith in ap (λ k. rea
 pub parts_push : (ps : List declared.Part) (p : declared.Part) → the_parts (ps ++ p ∷ []) ≡ the_parts ps ++ the_part p ∷ []
 parts_push [] p = refl
 parts_push (x ∷ ps) p = ap (λ l. the_part x ∷ l) (parts_push ps p)
+
+pub ruleset parts_steps = (parts_turn, parts_end, parts_push)

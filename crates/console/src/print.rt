@@ -35,7 +35,7 @@ fn push_byte(out: &mut Vec<u8>, high: bool, byte: u8) -> Result<(), AllocError>
 }
 
 // Bytes in quotes.
-#[tactic(auto, using(crate::proofs::Appends::flat_at, crate::proofs::Appends::flat_end))]
+#[tactic(auto, using(crate::proofs::Appends::appends))]
 fn push_quoted(out: &mut Vec<u8>, bytes: &[u8]) -> Result<(), AllocError>
     ensures { OnOk result (out.new.items ≡ out.old.items ++ quoted bytes.now) }
 {
@@ -151,7 +151,7 @@ fn push_part(out: &mut Vec<u8>, part: &Part) -> Result<(), AllocError>
     }
 }
 
-#[tactic(auto, using(crate::proofs::Appends::flat_at, crate::proofs::Appends::flat_end))]
+#[tactic(auto, using(crate::proofs::Appends::appends))]
 fn push_parts(out: &mut Vec<u8>, parts: &[Part]) -> Result<(), AllocError>
     ensures { OnOk result (out.new.items ≡ out.old.items ++ rule_text (the_parts parts.now)) }
 {

@@ -15,7 +15,7 @@ use rules::{Cut, Part, Rule};
 use std::alloc::Global;
 
 // What follows the opening quote of a literal: 1 to 64 bytes, and the closing quote.
-#[tactic(auto, using(crate::proofs::StepsRead::bytes_turn, crate::proofs::StepsRead::bytes_end), unfolding(crate::specs::Reading::read_literal))]
+#[tactic(auto, using(crate::proofs::StepsRead::bytes_steps), unfolding(crate::specs::Reading::read_literal))]
 fn read_literal(heap: Global, text: &[u8]) -> Result<(Vec<u8>, &[u8]), Stopped>
     ensures { TellsMade vec_items (read_literal text.now) result }
 {
@@ -57,7 +57,7 @@ fn read_part(heap: Global, text: &[u8]) -> Result<(Part, &[u8]), Stopped>
     Ok(read_cut(rest)?)
 }
 
-// That the text ends here.
+// Whether the text ends here, as it has to.
 fn read_end(text: &[u8]) -> Result<(), Failed>
     ensures ended { IfOk result (λ _. text.now ≡ []) }
     ensures goes_on { IfErr result (λ f. (so_far : _) → read_end so_far text.now ≡ failed f.left f.expected) }
@@ -69,7 +69,7 @@ fn read_end(text: &[u8]) -> Result<(), Failed>
     }
 }
 
-#[tactic(auto, using(crate::proofs::StepsRead::parts_turn, crate::proofs::StepsRead::parts_end, crate::proofs::StepsRead::parts_push), unfolding(crate::specs::Reading::read_rule))]
+#[tactic(auto, using(crate::proofs::StepsRead::parts_steps), unfolding(crate::specs::Reading::read_rule))]
 fn read_parts(heap: Global, text: &[u8]) -> Result<Vec<Part>, Stopped>
     ensures { TellsAll (λ v. the_parts v.items) (read_rule text.now) result }
 {
@@ -113,5 +113,6 @@ pub fn read_rule(heap: Global, text: &[u8]) -> Result<Rule, NotARule>
     ensures { MatchResult result (λ rule. read_rule text.now ≡ read (the_rule rule) []) (Refuses text.now) }
 {
     let parts = read_parts(heap, text).map_err(|stopped| refused(text, stopped))?;
+    // Parts that are read are within their limits, so they make a rule.
     Ok(Rule::new(parts).unwrap())
 }

@@ -34,7 +34,7 @@ fn add_byte(out: &mut Vec<u8>, byte: u8) -> Result<(), AllocError>
 }
 
 // A text as a row has it.
-#[tactic(auto, using(crate::proofs::Appends::flat_at, crate::proofs::Appends::flat_end))]
+#[tactic(auto, using(crate::proofs::Appends::appends))]
 fn add_text(out: &mut Vec<u8>, text: &[u8]) -> Result<(), AllocError>
     ensures { OnOk result (out.new.items ≡ out.old.items ++ escaped text.now) }
 {
@@ -47,7 +47,7 @@ fn add_text(out: &mut Vec<u8>, text: &[u8]) -> Result<(), AllocError>
 // What the rule makes of a line, if anything, written into `room`.
 #[tactic(auto, using(crate::proofs::RowsOfLines::made_has_room))]
 fn make<'a>(rule: &Rule, line: &[u8], room: &'a mut [u8; 512]) -> Option<&'a [u8]>
-    ensures { MatchOption result (made_of (the_rule rule.now) line.now ≡ nothing) (λ text. made_of (the_rule rule.now) line.now ≡ made text.now) }
+    ensures { MatchOption result (made_of (the_rule rule.now) line.now ≡ nothing) (λ t. made_of (the_rule rule.now) line.now ≡ made t.now) }
 {
     if line.len() > 64 {
         return None;

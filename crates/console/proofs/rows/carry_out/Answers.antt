@@ -16,7 +16,7 @@ loop-line-preserved c =
     let ends = step.1.2 (λ (b : ℕ). b == 10) (answers_always _ _ _ (λ f a r g e. search (rules, of_calls))) in
     let stripped = strip_suffix_is Decides-eqb _ _ c.strip_suffix.result c.strip_suffix.ensures.cases in
     let split : lines rest ≡ c.unwrap_or-line.result.now ∷ lines then =
-          first_line rest then c.in-Some.line c.strip_suffix.result step.1.0 step.2 step.0 step.1.1 ends.1 stripped ∙ ap (λ x. x.now ∷ lines then) (sym c.unwrap_or-line.ensures) in
+    first_line rest then c.in-Some.line c.strip_suffix.result step.1.0 step.2 step.0 step.1.1 ends.1 stripped ∙ ap (λ x. x.now ∷ lines then) (sym c.unwrap_or-line.ensures) in
     let sum = ap length step.0 ∙ length-append c.in-Some.line.now then in
     record {
       can = search rules;
