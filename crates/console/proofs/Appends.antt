@@ -1,12 +1,12 @@
 -- Printing appends: by a loop, what was appended and what is left to append make the whole; by a call, if there is memory.
-use Rattle.std.proofs.Common.{◌≡◌, ℕ, ◌+◌, ◌-◌, ◌<◌, ◌≤◌, Bool, true, false, cond, eqb, ltb, List, [], ◌∷◌, ◌++◌, length, get_or, take, drop, is_ok, IfOk, Ok, Err, codes, Result, sym, refl, ap, ◌∙◌, append_assoc, append-nil, arith}
+use Rattle.std.proofs.Common.{◌≡◌, ℕ, ◌+◌, ◌-◌, ◌<◌, ◌≤◌, Bool, true, false, eqb, ltb, List, [], ◌∷◌, ◌++◌, length, get_or, take, drop, IfOk, codes, Result, sym, refl, ap, ◌∙◌, append_assoc, append-nil, arith}
 use Rattle.std.proofs.lemmas.Bool.{le-ltb, eq-eqb, ne_eqb}
 use Rattle.std.proofs.lemmas.List.{at_drop_more, at_drop_all, take_rest}
 use Rattle.rules.specs.Lists.{pick, flat, each}
 use Rattle.rules.specs.Values.{the_part, the_parts}
 use Rattle.rules.specs.declared.part.Part.{Part}
 use Rattle.std.proofs.lemmas.Result.{IfOk-weaker}
-use Rattle.console.specs.Text.{utf8, shown, quoted, number_text, ordinal_end, run_text, kind_text, sides_text, nth_text, part_text, later_text, rule_text}
+use Rattle.console.specs.Text.{quoted, run_text, kind_text, sides_text, part_text, later_text, rule_text}
 
 -- what is left to append, at an element and at the end
 pub flat_at : {A B : Type 0} (f : A → List B) (xs : List A) (i : ℕ) (d : A) → i < length xs → flat f (drop i xs) ≡ f (get_or xs i d) ++ flat f (drop (i + 1) xs)

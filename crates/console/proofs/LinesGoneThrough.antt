@@ -1,5 +1,5 @@
 -- A file is gone through line by line: the first line, and then the lines behind it.
-use Rattle.std.proofs.Common.{◌≡◌, ℕ, suc, ◌+◌, ◌<◌, ◌≤◌, Bool, true, false, eqb, ◌⊎◌, inl, inr, List, [], ◌∷◌, ◌++◌, length, get_or, take, min, Some, None, Option, vec_items, sym, refl, ap, ◌∙◌, ap₂, append_assoc, append-nil, arith, Bor, MatchOption}
+use Rattle.std.proofs.Common.{◌≡◌, ℕ, suc, ◌+◌, ◌<◌, ◌≤◌, false, eqb, ◌⊎◌, inl, inr, List, [], ◌∷◌, ◌++◌, length, get_or, take, min, Some, None, Option, vec_items, sym, refl, ap, ◌∙◌, ap₂, append_assoc, append-nil, arith, Bor, MatchOption}
 use Rattle.std.specs.Option.{unwrap_or}
 use Rattle.std.specs.List.{IsFirstMatchOrLen}
 use Rattle.std.proofs.lemmas.Bool.{eqb-true, cases_lt}

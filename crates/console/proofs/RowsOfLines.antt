@@ -1,9 +1,8 @@
 -- What a rule makes of a line that is not too long has room in 512 bytes.
-use Rattle.std.proofs.Common.{◌≡◌, ℕ, ◌≤◌, true, List, length, Ok, Err, refl, ap, sym, subst, arith}
+use Rattle.std.proofs.Common.{◌≡◌, ℕ, ◌≤◌, true, List, length, refl}
 use Rattle.std.specs.Result.{IsOk}
 use Rattle.std.proofs.lemmas.Bool.{le-leb}
 use Rattle.rules.specs.Answers.{made_told}
-use Rattle.rules.specs.Lists.{pick}
 use Rattle.rules.specs.Promises.{made_length}
 use Rattle.rules.specs.Rules.{Rule, Made, nothing, made, makes, a_rule}
 use Rattle.rules.proofs.MadeIsShort.{made_short}

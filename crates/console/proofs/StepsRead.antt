@@ -1,11 +1,10 @@
 -- The bytes of a literal and the parts of a rule are read by a loop: one turn of it.
-use Rattle.std.proofs.Common.{◌≡◌, ℕ, zero, suc, ◌+◌, ◌-◌, ◌<◌, ◌≤◌, List, [], ◌∷◌, ◌++◌, length, Some, None, codes, sym, refl, ap, ◌∙◌, sub-one, arith}
+use Rattle.std.proofs.Common.{◌≡◌, ℕ, zero, suc, ◌+◌, ◌-◌, ◌<◌, ◌≤◌, List, [], ◌∷◌, ◌++◌, length, codes, refl, ap, arith}
 use Rattle.rules.specs.declared.part.Part as declared
 use Rattle.rules.specs.Values.{the_part, the_parts}
-use Rattle.rules.specs.Rules.{Part, Rule}
-use Rattle.console.specs.declared.expected.Expected.{Expected}
+use Rattle.rules.specs.Rules.{Rule}
 use Rattle.console.specs.declared.expected.Expected.TheVariants.{Quote}
-use Rattle.console.specs.Reading.{read, failed, next, strip, after, read_byte, read_bytes, read_part, read_end, read_parts, read_rule}
+use Rattle.console.specs.Reading.{read, failed, next, strip, after, read_byte, read_bytes, read_part, read_end, read_parts}
 
 -- what a literal's bytes are read as while there is room for more, and where there is none
 pub bytes_turn : (n i : ℕ) (so_far t : List ℕ) → i < n → read_bytes (n - i) so_far t ≡ after (strip (codes "\"") t) (read so_far) (next (read_byte t) (λ c u. read_bytes (n - (i + 1)) (so_far ++ c ∷ []) u))

@@ -1,5 +1,5 @@
 -- What `strip_prefix` gives is what is left after the word.
-use Rattle.std.proofs.Common.{◌≡◌, ℕ, ◌≤◌, List, [], ◌∷◌, ◌++◌, length, Some, None, Option, refl, ap, ◌∙◌, arith, Bor, MatchOption}
+use Rattle.std.proofs.Common.{◌≡◌, ℕ, List, [], ◌∷◌, ◌++◌, Some, None, Option, refl, ap, ◌∙◌, arith, Bor, MatchOption}
 use Rattle.console.specs.Reading.{strip}
 use Rattle.console.proofs.BytesBack.{strip_back}
 

@@ -1,4 +1,3 @@
-use Rattle.std.proofs.Common.{length}
 use Rattle.std.specs.Slice.Iter.{split_inclusive_rest}
 use Rattle.rules.specs.Held.{the_rule}
 use Rattle.console.proofs.LinesGoneThrough.{Going}
