@@ -52,6 +52,7 @@ fn make<'a>(rule: &Rule, line: &[u8], room: &'a mut [u8; 512]) -> Option<&'a [u8
     if line.len() > 64 {
         return None;
     }
+    // Eight parts of up to 64 bytes each have room.
     let n = rule.makes(line, room).unwrap()?;
     Some(&room[..n])
 }

@@ -12,6 +12,7 @@ pub returns : goal.returns
 returns c =
     let so_far = the_parts (vec_items c.loop.parts) in
     let end : read_parts (7 - c.loop.counter) so_far c.loop.rest.now ≡ read_end so_far c.loop.rest.now = elim c.loop-test.branch [
-    | else-loop-test w ↦ parts_end 7 c.loop.counter so_far c.loop.rest.now w.loop-test.false
-    | then-loop-test+in_default-strip w ↦ let turn = parts_turn 7 c.loop.counter so_far c.loop.rest.now w.loop-test.true in search rules ] in
+      | else-loop-test w ↦ parts_end 7 c.loop.counter so_far c.loop.rest.now w.loop-test.false
+      | then-loop-test+in_default-strip w ↦ let turn = parts_turn 7 c.loop.counter so_far c.loop.rest.now w.loop-test.true in search rules
+    ] in
     search rules
