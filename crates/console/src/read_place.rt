@@ -3,7 +3,8 @@ ghost use Rattle.std.specs.Prelude.{◌≡◌, [], ◌∷◌, ◌==◌};
 ghost use Rattle.rules.specs.Lists.{pick};
 ghost use Rattle.rules.specs.Values.{kind_number, the_place};
 ghost use Rattle.console.specs.declared.expected.Expected.TheVariants.{Named, Edge};
-ghost use Rattle.console.specs.Reading.{read_sign, read_run, read_kind, read_behind, read_sides, read_word, read_ordinal, read_later, read_edge, read_count, read_the, read_place};
+ghost use Rattle.console.specs.Reading.{read_sign, read_run, read_kind, read_behind, read_sides};
+ghost use Rattle.console.specs.Reading.{read_word, read_ordinal, read_later, read_edge, read_count, read_the, read_place};
 ghost use Rattle.console.specs.Told.{Tells};
 
 use crate::expected::Expected;

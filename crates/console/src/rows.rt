@@ -58,7 +58,7 @@ fn make<'a>(rule: &Rule, line: &[u8], room: &'a mut [u8; 512]) -> Option<&'a [u8
 }
 
 impl Table {
-    // The row of one line more. What is made of it is written into `room` first.
+    // The row of one line more; `room` is for what is made of it.
     fn add_line(&mut self, rule: &Rule, line: &[u8], room: &mut [u8; 512]) -> Result<(), AllocError>
         requires { self.old.lines < 2 ^ 64 - 1 }
         ensures { OnOk result (OneMore (the_rule rule.now) line.now self.old self.new) }
