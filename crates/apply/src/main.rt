@@ -29,10 +29,8 @@ from the line between two places:
 fn apply(rt: &HostRuntime, rule: &str, file: &str) -> Result<(), Refusal> {
     let heap = rt.alloc();
     let rule = read_rule(heap, rule.as_bytes())?;
-    let bytes = match fs::read(rt, file) {
-        Ok(bytes) => bytes,
-        Err(error) => return Err(Refusal::File(String::from_str(heap, file)?, error)),
-    };
+    let bytes = fs::read(rt, file)
+        .try_map_err(|error| Ok(Refusal::File(String::from_str(heap, file)?, error)))?;
     let table = carry_out(heap, &rule, bytes.as_slice())?;
     rt.stdout().write_all(table.rows.as_slice())?;
     report(rt, &table)?;
@@ -41,11 +39,9 @@ fn apply(rt: &HostRuntime, rule: &str, file: &str) -> Result<(), Refusal> {
 
 // Does what the arguments ask for.
 fn run(rt: &HostRuntime) -> Result<(), Refusal> {
-    let given = match env::args(rt) {
-        Ok(given) => given,
-        Err(error) => return Err(Refusal::NotText(error)),
-    };
-    let args: Vec<String> = given.collect(rt.alloc())?;
+    let args: Vec<String> = env::args(rt)
+        .map_err(Refusal::NotText)?
+        .collect(rt.alloc())?;
     match args.as_slice() {
         [_, rule, file] => apply(rt, rule.as_str(), file.as_str()),
         [_, only] if only.as_str() == "--help" => Ok(rt.print(HELP)?),

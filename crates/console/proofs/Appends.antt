@@ -1,42 +1,34 @@
 -- Printing appends: by a loop, what was appended and what is left to append make the whole; by a call, if there is memory.
-use Rattle.std.proofs.Common.{◌≡◌, ℕ, ◌+◌, ◌-◌, ◌<◌, ◌≤◌, Bool, true, false, cond, eqb, ltb, List, [], ◌∷◌, ◌++◌, length, get_or, take, drop, is_ok, IfOk, Ok, Err, codes, Result, sym, refl, ap, ◌∙◌, append_assoc, append-nil, arith}
+use Rattle.std.proofs.Common.{◌≡◌, ℕ, ◌+◌, ◌-◌, ◌<◌, ◌≤◌, Bool, true, false, eqb, ltb, List, [], ◌∷◌, ◌++◌, length, get_or, take, drop, IfOk, codes, Result, sym, refl, ap, ◌∙◌, append_assoc, append-nil, arith}
 use Rattle.std.proofs.lemmas.Bool.{le-ltb, eq-eqb, ne_eqb}
 use Rattle.std.proofs.lemmas.List.{at_drop_more, at_drop_all, take_rest}
 use Rattle.rules.specs.Lists.{pick, flat, each}
 use Rattle.rules.specs.Values.{the_part, the_parts}
 use Rattle.rules.specs.declared.part.Part.{Part}
 use Rattle.std.proofs.lemmas.Result.{IfOk-weaker}
-use Rattle.console.specs.Text.{utf8, shown, quoted, number_text, ordinal_end, run_text, kind_text, sides_text, nth_text, part_text, later_text, rule_text}
+use Rattle.console.specs.Text.{quoted, run_text, kind_text, sides_text, part_text, later_text, rule_text}
 
-module _ {A B : Type 0} (f : A → List B) (xs : List A) (i : ℕ) (whole : List B) where
-  pub flat_more : (was out : List B) (d : A) → i < length xs → was ++ flat f (drop i xs) ≡ whole → out ≡ was ++ f (get_or xs i d) → out ++ flat f (drop (i + 1) xs) ≡ whole
-  flat_more was out d h w o =
-      let rest = flat f (drop (i + 1) xs) in
-      ap (λ l. l ++ rest) o ∙ append_assoc was (f (get_or xs i d)) rest ∙ ap (λ l. was ++ l) (sym (at_drop_more (flat f) xs i d h)) ∙ w
+-- what is left to append, at an element and at the end
+pub flat_at : {A B : Type 0} (f : A → List B) (xs : List A) (i : ℕ) (d : A) → i < length xs → flat f (drop i xs) ≡ f (get_or xs i d) ++ flat f (drop (i + 1) xs)
+flat_at f xs i d h = at_drop_more (flat f) xs i d h
 
-  pub flat_all : (out : List B) → length xs ≤ i → out ++ flat f (drop i xs) ≡ whole → out ≡ whole
-  flat_all out h w = sym (append-nil out) ∙ ap (λ l. out ++ l) (sym (at_drop_all (flat f) xs i h)) ∙ w
+pub flat_end : {A B : Type 0} (f : A → List B) (xs : List A) (i : ℕ) → length xs ≤ i → flat f (drop i xs) ≡ []
+flat_end f xs i h = at_drop_all (flat f) xs i h
+
+pub ruleset appends = (flat_at, flat_end)
 
 -- one more append
 pub more : {B : Type 0} (start was out as₁ bs : List B) → was ≡ start ++ as₁ → out ≡ was ++ bs → out ≡ start ++ (as₁ ++ bs)
 more start was out as₁ bs w o = o ∙ ap (λ l. l ++ bs) w ∙ append_assoc start as₁ bs
 
--- of words that are known by what they are
-pub more_words : {B : Type 0} (start was out as₁ bs words : List B) → was ≡ start ++ as₁ → out ≡ was ++ words → words ≡ bs → out ≡ start ++ (as₁ ++ bs)
-more_words start was out as₁ bs words w o e = more start was out as₁ bs w (o ∙ ap (λ l. was ++ l) e)
-
 -- and the last one, which makes the whole
 pub made_last : {B X Y : Type 0} (r : Result X Y) (start was out as₁ bs whole : List B) → was ≡ start ++ as₁ → as₁ ++ bs ≡ whole → IfOk r (λ _. out ≡ was ++ bs) → IfOk r (λ _. out ≡ start ++ whole)
 made_last r start was out as₁ bs whole w e h = IfOk-weaker r (λ _. out ≡ was ++ bs) (λ _. out ≡ start ++ whole) (λ x o. more start was out as₁ bs w o ∙ ap (λ l. start ++ l) e) h
 
-pub made_cond : {B X Y : Type 0} (r : Result X Y) (was out bs : List B) → out ≡ cond (is_ok r) (was ++ bs) was → IfOk r (λ _. out ≡ was ++ bs)
-made_cond (Ok x) was out bs o = o
-made_cond (Err y) was out bs o = tt
-
-pub picks : {A : Type 0} (b : Bool) (x y : A) → b ≡ true → x ≡ pick b x y
+picks : {A : Type 0} (b : Bool) (x y : A) → b ≡ true → x ≡ pick b x y
 picks b x y e = ap (λ c. pick c x y) (sym e)
 
-pub passes : {A : Type 0} (b : Bool) (x y : A) → b ≡ false → y ≡ pick b x y
+passes : {A : Type 0} (b : Bool) (x y : A) → b ≡ false → y ≡ pick b x y
 passes b x y e = ap (λ c. pick c x y) (sym e)
 
 -- WHAT THE APPENDED WORDS MAKE
@@ -45,13 +37,6 @@ sign_whole ends c =
     let number : 256 + c - 256 ≡ c = omega arith in
     ap (λ d. codes "there's a " ++ quoted (d ∷ [])) (sym number)
     ∙ passes (ltb (256 + c) 256) (run_text ends (256 + c)) (codes "there's a " ++ quoted ((256 + c - 256) ∷ [])) (le-ltb (256 + c) 256 (omega arith))
-
-pub later_whole : (n : ℕ) (back : Bool) → (n ≡ 1 → ⊥) → number_text n ++ ordinal_end n ++ pick back (codes " last place ") (codes " place ") ≡ nth_text n back
-later_whole n back e = passes (eqb n 1) (pick back (codes "last place ") (codes "first place ")) (number_text n ++ ordinal_end n ++ pick back (codes " last place ") (codes " place ")) (ne_eqb n 1 e)
-
-pub behind_whole : (l r : ℕ) → l ≡ 0 → codes "behind which " ++ kind_text false r ≡ sides_text l r
-behind_whole l r e =
-    picks (eqb l 0) (codes "behind which " ++ kind_text false r) (codes "before which " ++ kind_text true l ++ pick (eqb r 0) [] (codes ", and behind which " ++ kind_text false r)) (eq-eqb l 0 e)
 
 before_more : (l r : ℕ) → (l ≡ 0 → ⊥) → codes "before which " ++ kind_text true l ++ pick (eqb r 0) [] (codes ", and behind which " ++ kind_text false r) ≡ sides_text l r
 before_more l r e =
@@ -67,16 +52,6 @@ both_whole l r e z =
     let start = codes "before which " ++ kind_text true l in
     append_assoc start (codes ", and behind which ") (kind_text false r) ∙ ap (λ s. start ++ s) (passes (eqb r 0) [] (codes ", and behind which " ++ kind_text false r) (ne_eqb r 0 z)) ∙ before_more l r e
 
-pub made_whole : {B X Y : Type 0} (r : Result X Y) (was out more whole : List B) → out ≡ cond (is_ok r) (was ++ more) was → was ++ more ≡ whole → IfOk r (λ _. out ≡ whole)
-made_whole (Ok x) was out more whole o w = o ∙ w
-made_whole (Err y) was out more whole o w = tt
-
--- between the quotes stands what the loop appended
-pub quoted_whole : (start opened out bs : List ℕ) (high : Bool) → high ≡ utf8 bs → opened ≡ start ++ 34 ∷ [] → out ≡ opened ++ flat (shown high) bs → out ++ 34 ∷ [] ≡ start ++ quoted bs
-quoted_whole start opened out bs high h o w =
-    ap (λ l. l ++ 34 ∷ []) (w ∙ ap (λ l. l ++ flat (shown high) bs) o ∙ ap (λ b. start ++ 34 ∷ [] ++ flat (shown b) bs) h)
-    ∙ append_assoc (start ++ 34 ∷ []) (flat (shown (utf8 bs)) bs) (34 ∷ []) ∙ append_assoc start (34 ∷ []) (flat (shown (utf8 bs)) bs ++ 34 ∷ [])
-
 flat_each : {A B C : Type 0} (g : B → List C) (f : A → B) (xs : List A) → flat (λ x. g (f x)) xs ≡ flat g (each f xs)
 flat_each g f [] = refl
 flat_each g f (x ∷ xs) = ap (λ l. g (f x) ++ l) (flat_each g f xs)
@@ -87,7 +62,3 @@ parts_whole (p ∷ ps) first some e =
     ap (λ q. part_text (the_part q) ++ flat (λ q. later_text (the_part q)) (take (length (p ∷ ps) - 1) ps)) e
     ∙ ap (λ l. part_text (the_part p) ++ flat (λ q. later_text (the_part q)) l) (take_rest (p ∷ ps) 1)
     ∙ ap (λ l. part_text (the_part p) ++ l) (flat_each later_text the_part ps)
-
-pub no_parts_whole : (ps : List Part) → length ps < 1 → codes "no parts" ≡ rule_text (the_parts ps)
-no_parts_whole [] none = refl
-no_parts_whole (p ∷ ps) none = absurd (omega arith)

@@ -1,14 +1,10 @@
 -- What stands in quotes is read back: a byte, a literal, a sign.
-use Rattle.std.proofs.Common.{◌≡◌, ℕ, zero, suc, ◌+◌, ◌*◌, ◌/◌, ◌%◌, ◌<◌, ◌≤◌, Bool, true, false, ◌&&◌, ltb, List, [], ◌∷◌, ◌++◌, length, Some, None, codes, refl, append_assoc, append-nil, arith}
+use Rattle.std.proofs.Common.{◌≡◌, ℕ, zero, suc, ◌+◌, ◌*◌, ◌/◌, ◌%◌, ◌<◌, ◌≤◌, Bool, true, ◌&&◌, ltb, List, [], ◌∷◌, ◌++◌, length, Some, None, codes, refl, append_assoc, append-nil, arith}
 use Rattle.std.proofs.lemmas.Bool.{and_parts, ltb-true}
 use Rattle.rules.specs.Lists.{pick, or, flat, every}
+use Rattle.rules.proofs.Tests.{pick_both}
 use Rattle.console.specs.Text.{hex, marked, plain, shown}
 use Rattle.console.specs.Reading.{read, strip, read_digit, read_byte, read_bytes, read_literal, read_sign}
-
--- what holds of both that a test picks from holds of the one that it picks
-pub pick_both : {A : Type 0} (b : Bool) (x y : A) (P : A → Type 0) → (b ≡ true → P x) → (b ≡ false → P y) → P (pick b x y)
-pick_both true x y P f g = f refl
-pick_both false x y P f g = g refl
 
 pub strip_back : (w t : List ℕ) → strip w (w ++ t) ≡ Some t
 strip_back [] t = refl

@@ -7,7 +7,8 @@ use Rattle.rules.specs.Rules.{a_kind, a_place}
 use Rattle.console.specs.declared.expected.Expected.TheVariants.{LaterNumber, Place as a_place_there, Bytes}
 use Rattle.console.specs.Text.{utf8, shown, number_text, ordinal_end, count_end, kind_text, sides_text, nth_text, count_text, place_text}
 use Rattle.console.specs.Reading.{read, failed, next, strip, after, front, begins_number, read_number, read_run, read_sign, read_kind, read_behind, read_sides, read_word, read_ordinal, read_later, read_edge, read_count, read_the, read_place}
-use Rattle.console.proofs.BytesBack.{pick_both, strip_back, sign_back}
+use Rattle.rules.proofs.Tests.{pick_both}
+use Rattle.console.proofs.BytesBack.{strip_back, sign_back}
 
 -- each of the five runs
 among_five : (P : ℕ → Type 0) (k : ℕ) → 1 ≤ k → k ≤ 5 → P 1 → P 2 → P 3 → P 4 → P 5 → P k

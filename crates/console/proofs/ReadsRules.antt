@@ -5,14 +5,17 @@ use Rattle.std.proofs.lemmas.Bool.{and_parts, and_from, le-leb}
 use Rattle.rules.specs.Lists.{pick, between, every}
 use Rattle.rules.specs.Places.{from_first, from_last, nth_of}
 use Rattle.rules.specs.Rules.{bytes, cut, Rule, a_kind, a_place, a_part, a_rule}
+use Rattle.rules.specs.Faults.{rule_fault}
+use Rattle.rules.proofs.FaultlessRules.{rule_faultless}
 use Rattle.rules.proofs.FaultsTell.{literal_right}
 use Rattle.rules.proofs.EachElement.{every_push}
 use Rattle.console.specs.declared.expected.Expected.{Expected}
 use Rattle.console.specs.declared.expected.Expected.TheVariants.{Part as some_part, Place as some_place, Number, LaterNumber, Bytes, Edge, Named, OrdinalEnd, PlaceWord, Side, To, Byte, Escape, Digit, Quote}
 use Rattle.console.specs.Text.{marked, plain, count_end, ordinal_end, run_text, to_text}
 use Rattle.console.specs.Reading.{Read, read, failed, next, strip, after, front, begins_number, read_digit, read_hex, read_escaped, read_byte, read_bytes, read_literal, read_sign, read_number, read_second, past_second, read_run, read_kind, read_behind, read_sides, read_word, read_ordinal, read_later, read_edge, read_count, read_the, read_place, read_cut, read_part, read_end, read_parts, read_rule}
+use Rattle.console.specs.Told.{FailsAt}
 use Rattle.console.specs.Promises.{ReadsRules, FailsWithin}
-use Rattle.console.proofs.BytesBack.{pick_both}
+use Rattle.rules.proofs.Tests.{pick_both}
 use Rattle.console.proofs.WordsStrip.{strip_splits}
 
 -- a reading within a text that is so long: what is read, if anything, passes the test, and no more is left than there was
@@ -214,12 +217,16 @@ module _ (whole : ℕ) where
 pub reads_rules : ReadsRules
 reads_rules t r rest e = (subst (Gives (length t) a_rule) e (rule_gives (length t) t (omega arith))).0
 
+-- so parts that are read have no fault
+pub read_faultless : (t : List ℕ) (r : Rule) → read_rule t ≡ read r [] → rule_fault r ≡ None
+read_faultless t r e = rule_faultless r (reads_rules t r [] e)
+
 pub fails_within : FailsWithin
 fails_within t left x e = subst (Gives (length t) a_rule) e (rule_gives (length t) t (omega arith))
 
 -- the byte at which it fails, from how many bytes are left there
-pub fails_at : (t : List ℕ) (left : ℕ) (x : Expected) → read_rule t ≡ failed left x → (length t - left ≤ length t) × (read_rule t ≡ failed (length t - (length t - left)) x)
+pub fails_at : (t : List ℕ) (left : ℕ) (x : Expected) → read_rule t ≡ failed left x → FailsAt t (length t - left) x
 fails_at t left x e =
     let within = fails_within t left x e in
     let same : left ≡ length t - (length t - left) = omega arith in
-    (omega arith, e ∙ ap (λ n. failed n x) same)
+    record { within = omega arith; fails = e ∙ ap (λ n. failed n x) same }

@@ -1,21 +1,17 @@
 -- The test of `specs/` for UTF-8 tells what that of `std` tells.
-use Rattle.std.proofs.Common.{◌≡◌, ℕ, true, false, ◌⊎◌, List, is_ok, Ok, Err, IsUtf8, Decides, Result, sym, refl, inl, inr, MatchResult}
+use Rattle.std.proofs.Common.{◌≡◌, ℕ, true, false, ◌⊎◌, List, is_ok, Ok, Err, IsUtf8, Result, sym, ap, ◌∙◌, inl, inr, MatchResult}
 use Rattle.std.specs.Str.{chars, encode_utf8_all, all_scalars}
-use Rattle.std.proofs.lemmas.Slice.Eq.{compares_Decides}
 use Rattle.std.proofs.lemmas.Bool.{and_from, and_parts, cases_Bool}
 use Rattle.std.proofs.lemmas.Str.{scalars-chars, encodes-chars}
 use Rattle.rules.specs.Lists.{same}
+use Rattle.rules.proofs.Tests.{same_eq, same_itself}
 use Rattle.console.specs.Text.{utf8}
 
-same_decides : (xs ys : List ℕ) → Decides (same xs ys) (xs ≡ ys)
-unfolding same
-same_decides xs ys = compares_Decides same (record { empty = refl; shorter = λ y ys. refl; longer = λ x xs. refl; heads = λ x y xs ys. refl }) xs ys
-
 utf8_true : (bs : List ℕ) → IsUtf8 bs → utf8 bs ≡ true
-utf8_true bs u = and_from _ _ (scalars-chars bs u) ((same_decides _ _).1 (encodes-chars bs u))
+utf8_true bs u = and_from _ _ (scalars-chars bs u) (ap (λ l. same l bs) (encodes-chars bs u) ∙ same_itself bs)
 
 true_utf8 : (bs : List ℕ) → utf8 bs ≡ true → IsUtf8 bs
-true_utf8 bs e = let both = and_parts (all_scalars (chars bs)) (same (encode_utf8_all (chars bs)) bs) e in (chars bs, (both.0, (same_decides _ _).0 both.1))
+true_utf8 bs e = let both = and_parts (all_scalars (chars bs)) (same (encode_utf8_all (chars bs)) bs) e in (chars bs, (both.0, same_eq (encode_utf8_all (chars bs)) bs both.1))
 
 utf8_false : (bs : List ℕ) → (IsUtf8 bs → ⊥) → (utf8 bs ≡ true) ⊎ (utf8 bs ≡ false) → utf8 bs ≡ false
 utf8_false bs u (inl e) = absurd (u (true_utf8 bs e))

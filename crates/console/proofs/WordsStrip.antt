@@ -1,6 +1,6 @@
--- What `strip_prefix` gives is what is left after the word; and where a text has no byte there is a 0.
-use Rattle.std.proofs.Common.{◌≡◌, ℕ, ◌≤◌, List, [], ◌∷◌, ◌++◌, length, Some, None, Option, refl, ap, ◌∙◌, arith, Bor, MatchOption}
-use Rattle.console.specs.Reading.{strip, front}
+-- What `strip_prefix` gives is what is left after the word.
+use Rattle.std.proofs.Common.{◌≡◌, ℕ, List, [], ◌∷◌, ◌++◌, Some, None, Option, refl, ap, ◌∙◌, arith, Bor, MatchOption}
+use Rattle.console.specs.Reading.{strip}
 use Rattle.console.proofs.BytesBack.{strip_back}
 
 -- what is left stands behind the word
@@ -16,7 +16,3 @@ strip_told w t None h = none (strip w t) refl
     none None e = refl
     none (Some rest) e = absurd (h rest (strip_splits w t rest e))
 strip_told w t (Some x) h = ap (strip w) h ∙ strip_back w x.now
-
-pub front_none : (t : List ℕ) → length t ≤ 0 → 0 ≡ front t
-front_none [] h = refl
-front_none (c ∷ t) h = absurd (omega arith)

@@ -38,7 +38,8 @@ front t = slice_index t 0
 -- a hexadecimal digit
 abbrev pub read_digit : List ℕ → Read ℕ
 read_digit t =
-    pick (between 48 57 (front t)) (read (front t - 48) (drop 1 t)) (pick (between 97 102 (front t)) (read (front t - 87) (drop 1 t)) (failed (length t) Digit))
+    pick (between 48 57 (front t)) (read (front t - 48) (drop 1 t))
+    (pick (between 97 102 (front t)) (read (front t - 87) (drop 1 t)) (failed (length t) Digit))
 
 -- two hexadecimal digits
 abbrev pub read_hex : List ℕ → Read ℕ
@@ -82,7 +83,8 @@ past_second t = pick (between 48 57 (front t)) (drop 1 t) t
 -- a number from 1 to 64
 unfoldable pub read_number : List ℕ → Read ℕ
 read_number t =
-    pick (begins_number t && nat_le (read_second (front t - 48) (drop 1 t)) 64) (read (read_second (front t - 48) (drop 1 t)) (past_second (drop 1 t))) (failed (length t) Number)
+    pick (begins_number t && nat_le (read_second (front t - 48) (drop 1 t)) 64)
+    (read (read_second (front t - 48) (drop 1 t)) (past_second (drop 1 t))) (failed (length t) Number)
 
 -- PLACES
 -- a run of one of the kinds
@@ -97,17 +99,21 @@ read_kind ends t = after (strip (codes "there's a \"") t) read_sign (read_run en
 -- what may stand behind a place before which there is an l
 unfoldable pub read_behind : (l n : ℕ) → (back : Bool) → List ℕ → Read places.Place
 read_behind l n back t =
-    after (strip (codes ", and behind which ") t) (λ u. next (read_kind false u) (λ r v. read (nth_of l r n back) v)) (read (nth_of l 0 n back) t)
+    after (strip (codes ", and behind which ") t) (λ u. next (read_kind false u) (λ r v. read (nth_of l r n back) v))
+    (read (nth_of l 0 n back) t)
 
 -- what stands before the nth place, behind it, or both
 unfoldable pub read_sides : (n : ℕ) → (back : Bool) → List ℕ → Read places.Place
 read_sides n back t =
     after (strip (codes "before which ") t) (λ u. next (read_kind true u) (λ l v. read_behind l n back v))
-    (after (strip (codes "behind which ") t) (λ u. next (read_kind false u) (λ r v. read (nth_of 0 r n back) v)) (failed (length t) Side))
+    (after (strip (codes "behind which ") t) (λ u. next (read_kind false u) (λ r v. read (nth_of 0 r n back) v))
+    (failed (length t) Side))
 
 -- which way the nth place is counted
 unfoldable pub read_word : (n : ℕ) → List ℕ → Read places.Place
-read_word n t = after (strip (codes " place ") t) (read_sides n false) (after (strip (codes " last place ") t) (read_sides n true) (failed (length t) PlaceWord))
+read_word n t =
+    after (strip (codes " place ") t) (read_sides n false)
+    (after (strip (codes " last place ") t) (read_sides n true) (failed (length t) PlaceWord))
 
 -- what follows its number
 unfoldable pub read_ordinal : (n : ℕ) → List ℕ → Read places.Place
@@ -119,7 +125,9 @@ read_later t = next (read_number t) (λ n u. pick (n == 1) (failed (length t) La
 
 -- the edge of the text from which so many bytes are counted; after "the " it is the edge itself, of 0 bytes
 unfoldable pub read_edge : (n : ℕ) → List ℕ → Read places.Place
-read_edge n t = after (strip (codes "beginning") t) (read (from_first n)) (after (strip (codes "end") t) (read (from_last n)) (failed (length t) (pick (n == 0) Named Edge)))
+read_edge n t =
+    after (strip (codes "beginning") t) (read (from_first n))
+    (after (strip (codes "end") t) (read (from_last n)) (failed (length t) (pick (n == 0) Named Edge)))
 
 -- so many bytes from an edge of the text
 unfoldable pub read_count : List ℕ → Read places.Place
@@ -128,7 +136,8 @@ read_count t = next (read_number t) (λ n u. after (strip (count_end n) u) (read
 -- what follows "the "
 unfoldable pub read_the : List ℕ → Read places.Place
 read_the t =
-    pick (begins_number t) (read_later t) (after (strip (codes "first place ") t) (read_sides 1 false) (after (strip (codes "last place ") t) (read_sides 1 true) (read_edge 0 t)))
+    pick (begins_number t) (read_later t)
+    (after (strip (codes "first place ") t) (read_sides 1 false) (after (strip (codes "last place ") t) (read_sides 1 true) (read_edge 0 t)))
 
 -- a place
 unfoldable pub read_place : List ℕ → Read places.Place
@@ -137,7 +146,8 @@ read_place t = pick (begins_number t) (read_count t) (after (strip (codes "the "
 -- PARTS AND RULES
 -- what follows "from "
 unfoldable pub read_cut : List ℕ → Read rules.Part
-read_cut t = next (read_place t) (λ p u. after (strip (to_text p) u) (λ v. next (read_place v) (λ q w. read (cut p q) w)) (failed (length u) To))
+read_cut t =
+    next (read_place t) (λ p u. after (strip (to_text p) u) (λ v. next (read_place v) (λ q w. read (cut p q) w)) (failed (length u) To))
 
 -- a part
 unfoldable pub read_part : List ℕ → Read rules.Part

@@ -1,5 +1,5 @@
 -- A file gone through with a rule: its lines, and a row for each. Assumes nothing: these are definitions.
-use Rattle.std.specs.Prelude.{◌≡◌, ℕ, suc, ◌+◌, Bool, true, false, List, [], ◌∷◌, ◌++◌, length, vec_items, ◌==◌, nat_le}
+use Rattle.std.specs.Prelude.{◌≡◌, ℕ, ◌+◌, List, [], ◌∷◌, ◌++◌, length, vec_items, ◌==◌, nat_le}
 use Rattle.rules.specs.Lists.{pick, none_of, flat}
 use Rattle.rules.specs.Rules.{Rule, Made, nothing, made, makes}
 use Rattle.console.specs.declared.rows.Miss.{Miss}
@@ -44,16 +44,6 @@ miss n line (made t) = []
 unfoldable pub missed : Rule → ℕ → List (List ℕ) → List Miss
 missed r n [] = []
 missed r n (line ∷ ls) = miss n line (made_of r line) ++ missed r (n + 1) ls
-
--- the bytes before the end of the first line
-unfoldable pub line_length : List ℕ → ℕ
-line_length [] = 0
-line_length (c ∷ cs) = pick (c == 10) 0 (suc (line_length cs))
-
--- something was made
-abbrev pub is_something : Made → Bool
-is_something nothing = false
-is_something (made t) = true
 
 -- what came of lines: their rows, their number, and of which nothing was made
 pub record TableOf (r : Rule) (ls : List (List ℕ)) (t : Table) : Type 0 where

@@ -49,8 +49,10 @@ count_end n = codes " byte" ++ pick (n == 1) [] (codes "s") ++ codes " from the 
 -- that a run of the kind k ends, or begins; of what is no run nothing
 abbrev pub run_text : (ends : Bool) → (k : ℕ) → List ℕ
 run_text ends k =
-    pick (k == 1) (pick ends (codes "digits end") (codes "digits begin")) (pick (k == 2) (pick ends (codes "a run of letters ends") (codes "a run of letters begins"))
-    (pick (k == 3) (pick ends (codes "capitals end") (codes "capitals begin")) (pick (k == 4) (pick ends (codes "small letters end") (codes "small letters begin"))
+    pick (k == 1) (pick ends (codes "digits end") (codes "digits begin"))
+    (pick (k == 2) (pick ends (codes "a run of letters ends") (codes "a run of letters begins"))
+    (pick (k == 3) (pick ends (codes "capitals end") (codes "capitals begin"))
+    (pick (k == 4) (pick ends (codes "small letters end") (codes "small letters begin"))
     (pick (k == 5) (pick ends (codes "blanks end") (codes "blanks begin")) []))))
 
 -- that there is something of the kind k: a run that ends, or begins, or a sign
@@ -60,12 +62,14 @@ kind_text ends k = pick (nat_lt k 256) (run_text ends k) (codes "there's a " ++ 
 -- what is before the place, what is behind it, or both
 abbrev pub sides_text : (l r : ℕ) → List ℕ
 sides_text l r =
-    pick (l == 0) (codes "behind which " ++ kind_text false r) (codes "before which " ++ kind_text true l ++ pick (r == 0) [] (codes ", and behind which " ++ kind_text false r))
+    pick (l == 0) (codes "behind which " ++ kind_text false r)
+    (codes "before which " ++ kind_text true l ++ pick (r == 0) [] (codes ", and behind which " ++ kind_text false r))
 
 -- which of the places it is
 abbrev pub nth_text : (n : ℕ) → (back : Bool) → List ℕ
 nth_text n back =
-    pick (n == 1) (pick back (codes "last place ") (codes "first place ")) (number_text n ++ ordinal_end n ++ pick back (codes " last place ") (codes " place "))
+    pick (n == 1) (pick back (codes "last place ") (codes "first place "))
+    (number_text n ++ ordinal_end n ++ pick back (codes " last place ") (codes " place "))
 
 -- so many bytes from an edge of the text, or the edge itself
 abbrev pub count_text : ℕ → List ℕ

@@ -1,6 +1,7 @@
 -- What a function of src/ that reads says: what the definitions read, or where and why they failed. Assumes nothing: these are definitions.
 use Rattle.std.specs.Prelude.{◌≡◌, ℕ, ◌-◌, ◌≤◌, List, [], length, Result, MatchResult}
 use Rattle.std.specs.Borrow.{Bor}
+use Rattle.console.specs.declared.expected.Expected.{Expected}
 use Rattle.console.specs.declared.failed.Failed.{Failed}
 use Rattle.console.specs.declared.failed.Stopped.{Stopped}
 use Rattle.console.specs.declared.failed.Stopped.TheVariants.{Failed as At, Memory}
@@ -25,7 +26,12 @@ TellsMade the x r = MatchResult r (λ p. x ≡ read (the p.0) p.1.now) (Stops x)
 abbrev pub TellsAll : {X A : Type 0} → (X → A) → Read A → Result X Stopped → Type 0
 TellsAll the x r = MatchResult r (λ v. x ≡ read (the v) []) (Stops x)
 
--- why a text is refused: it fails at this byte, where this was expected; or there is no memory
+-- the text fails at this byte, where this was expected
+pub record FailsAt (t : List ℕ) (byte : ℕ) (e : Expected) : Type 0 where
+  pub within : byte ≤ length t
+  pub fails : read_rule t ≡ failed (length t - byte) e
+
+-- why a text is refused: it fails somewhere, or there is no memory
 abbrev pub Refuses : List ℕ → NotARule → Type 0
-Refuses t (Byte byte e) = (byte ≤ length t) × (read_rule t ≡ failed (length t - byte) e)
+Refuses t (Byte byte e) = FailsAt t byte e
 Refuses t NoMemory = Unit {0}

@@ -24,7 +24,7 @@ impl Failed {
     }
 }
 
-// Why nothing was read.
+// Why nothing was read. What `?` makes of an error is written by hand, since contracts name it.
 #[derive(Clone, Copy)]
 pub enum Stopped {
     Failed(Failed),

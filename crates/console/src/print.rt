@@ -1,12 +1,12 @@
 // Rules printed as text.
 ghost use Rattle.std.specs.Prelude.{◌≡◌, ◌<◌, ◌++◌, IfOk, OnOk};
-ghost use Rattle.rules.specs.Rules.{cut};
+ghost use Rattle.rules.specs.Rules.{cut as a_cut};
 ghost use Rattle.rules.specs.Values.{kind_number, the_place, the_part, the_parts};
 ghost use Rattle.console.specs.Text.{hex, shown, quoted, number_text, count_text, kind_text, sides_text, nth_text, place_text, part_text, rule_text};
 ghost use Rattle.rules.specs.Held.{the_rule};
 
 use crate::words;
-use rules::{Kind, Part, Place, Rule};
+use rules::{Cut, Kind, Part, Place, Rule};
 use std::alloc::{AllocError, Global};
 
 // A hexadecimal digit.
@@ -35,6 +35,7 @@ fn push_byte(out: &mut Vec<u8>, high: bool, byte: u8) -> Result<(), AllocError>
 }
 
 // Bytes in quotes.
+#[tactic(auto, using(crate::proofs::Appends::appends))]
 fn push_quoted(out: &mut Vec<u8>, bytes: &[u8]) -> Result<(), AllocError>
     ensures { OnOk result (out.new.items ≡ out.old.items ++ quoted bytes.now) }
 {
@@ -82,13 +83,13 @@ fn push_kind(out: &mut Vec<u8>, ends: bool, kind: Kind) -> Result<(), AllocError
 fn push_sides(out: &mut Vec<u8>, left: Kind, right: Kind) -> Result<(), AllocError>
     ensures { OnOk result (out.new.items ≡ out.old.items ++ sides_text (kind_number left) (kind_number right)) }
 {
-    if left.number() == 0 {
+    if left == Kind::Anything {
         out.extend_from_slice(b"behind which ")?;
         return push_kind(out, false, right);
     }
     out.extend_from_slice(b"before which ")?;
     push_kind(out, true, left)?;
-    if right.number() == 0 {
+    if right == Kind::Anything {
         return Ok(());
     }
     out.extend_from_slice(b", and behind which ")?;
@@ -132,13 +133,13 @@ fn push_place(out: &mut Vec<u8>, place: Place) -> Result<(), AllocError>
     }
 }
 
-fn push_cut(out: &mut Vec<u8>, from: Place, to: Place) -> Result<(), AllocError>
-    ensures { OnOk result (out.new.items ≡ out.old.items ++ part_text (cut (the_place from) (the_place to))) }
+fn push_cut(out: &mut Vec<u8>, cut: &Cut) -> Result<(), AllocError>
+    ensures { OnOk result (out.new.items ≡ out.old.items ++ part_text (a_cut (the_place cut.now.from) (the_place cut.now.to))) }
 {
     out.extend_from_slice(b"from ")?;
-    push_place(out, from)?;
-    out.extend_from_slice(words::to_words(from))?;
-    push_place(out, to)
+    push_place(out, cut.from)?;
+    out.extend_from_slice(words::to_words(cut.from))?;
+    push_place(out, cut.to)
 }
 
 fn push_part(out: &mut Vec<u8>, part: &Part) -> Result<(), AllocError>
@@ -146,10 +147,11 @@ fn push_part(out: &mut Vec<u8>, part: &Part) -> Result<(), AllocError>
 {
     match part {
         Part::Bytes(literal) => push_quoted(out, literal.as_slice()),
-        Part::Cut(cut) => push_cut(out, cut.from, cut.to),
+        Part::Cut(cut) => push_cut(out, cut),
     }
 }
 
+#[tactic(auto, using(crate::proofs::Appends::appends))]
 fn push_parts(out: &mut Vec<u8>, parts: &[Part]) -> Result<(), AllocError>
     ensures { OnOk result (out.new.items ≡ out.old.items ++ rule_text (the_parts parts.now)) }
 {

@@ -1,7 +1,7 @@
 // A file gone through with a rule: a row for each line, and of which lines nothing was made.
-ghost use Rattle.std.specs.Prelude.{◌≡◌, suc, ◌-◌, ◌^◌, ◌<◌, ◌≤◌, ◌++◌, length, take, drop, IfOk, MatchOption, OnOk};
+ghost use Rattle.std.specs.Prelude.{◌≡◌, ◌-◌, ◌^◌, ◌<◌, ◌++◌, IfOk, MatchOption, OnOk};
 ghost use Rattle.rules.specs.Rules.{nothing, made};
-ghost use Rattle.console.specs.Rows.{line_length, lines, escaped_byte, escaped, made_of, behind, row, is_something, OneMore, TableOf};
+ghost use Rattle.console.specs.Rows.{lines, escaped_byte, escaped, made_of, OneMore, TableOf};
 ghost use Rattle.rules.specs.Held.{the_rule};
 
 use rules::Rule;
@@ -34,6 +34,7 @@ fn add_byte(out: &mut Vec<u8>, byte: u8) -> Result<(), AllocError>
 }
 
 // A text as a row has it.
+#[tactic(auto, using(crate::proofs::Appends::appends))]
 fn add_text(out: &mut Vec<u8>, text: &[u8]) -> Result<(), AllocError>
     ensures { OnOk result (out.new.items ≡ out.old.items ++ escaped text.now) }
 {
@@ -43,81 +44,38 @@ fn add_text(out: &mut Vec<u8>, text: &[u8]) -> Result<(), AllocError>
     Ok(())
 }
 
-// What the rule makes of a line, at the front of `room`: so many bytes, if it makes anything.
-fn make(rule: &Rule, line: &[u8], room: &mut [u8]) -> Option<usize>
-    requires { length room.old ≡ 512 }
-    ensures { MatchOption result (made_of (the_rule rule.now) line.now ≡ nothing) (λ n. (n ≤ 512) × (made_of (the_rule rule.now) line.now ≡ made (take n room.new))) }
+// What the rule makes of a line, if anything, written into `room`.
+#[tactic(auto, using(crate::proofs::RowsOfLines::made_has_room))]
+fn make<'a>(rule: &Rule, line: &[u8], room: &'a mut [u8; 512]) -> Option<&'a [u8]>
+    ensures { MatchOption result (made_of (the_rule rule.now) line.now ≡ nothing) (λ t. made_of (the_rule rule.now) line.now ≡ made t.now) }
 {
     if line.len() > 64 {
         return None;
     }
-    match rule.makes(line, room) {
-        Ok(made) => made,
-        Err(_) => unreachable(),
-    }
-}
-
-// What was made, behind the line of which it was.
-fn add_made(out: &mut Vec<u8>, text: &[u8]) -> Result<(), AllocError>
-    ensures { OnOk result (out.new.items ≡ out.old.items ++ behind (made text.now)) }
-{
-    out.push(b'\t')?;
-    add_text(out, text)?;
-    out.push(b'\n')?;
-    Ok(())
-}
-
-// The row of a line; and whether something was made of it.
-fn add_row(out: &mut Vec<u8>, rule: &Rule, line: &[u8]) -> Result<bool, AllocError>
-    ensures { IfOk result (λ b. (out.new.items ≡ out.old.items ++ row (the_rule rule.now) line.now) × (b ≡ is_something (made_of (the_rule rule.now) line.now))) }
-{
-    let mut room = [0u8; 512];
-    add_text(out, line)?;
-    match make(rule, line, &mut room) {
-        Some(n) => {
-            add_made(out, &room[0..n])?;
-            Ok(true)
-        }
-        None => {
-            out.push(b'\n')?;
-            Ok(false)
-        }
-    }
-}
-
-// How many bytes there are before the end of the first line.
-fn line_length(text: &[u8]) -> usize
-    ensures { result ≡ line_length text.now }
-{
-    for (i, byte) in text.iter().enumerate() {
-        if *byte == b'\n' {
-            return i;
-        }
-    }
-    text.len()
-}
-
-// What is left behind a line of so many bytes.
-fn behind_line(text: &[u8], n: usize) -> &[u8]
-    ensures { result.now ≡ drop (suc n) text.now }
-{
-    if n < text.len() { &text[n + 1..] } else { &[] }
+    // Eight parts of up to 64 bytes each have room.
+    let n = rule.makes(line, room).unwrap()?;
+    Some(&room[..n])
 }
 
 impl Table {
-    // The row of one line more.
-    fn add_line(&mut self, rule: &Rule, line: &[u8]) -> Result<(), AllocError>
+    // The row of one line more; `room` is for what is made of it.
+    fn add_line(&mut self, rule: &Rule, line: &[u8], room: &mut [u8; 512]) -> Result<(), AllocError>
         requires { self.old.lines < 2 ^ 64 - 1 }
         ensures { OnOk result (OneMore (the_rule rule.now) line.now self.old self.new) }
     {
-        let made = add_row(&mut self.rows, rule, line)?;
         self.lines += 1;
-        if !made {
-            self.missed.push(Miss {
+        add_text(&mut self.rows, line)?;
+        match make(rule, line, room) {
+            Some(text) => {
+                self.rows.push(b'\t')?;
+                add_text(&mut self.rows, text)?;
+            }
+            None => self.missed.push(Miss {
                 line: self.lines,
                 too_long: line.len() > 64,
-            })?;
+            })?,
         }
+        self.rows.push(b'\n')?;
         Ok(())
     }
 }
@@ -131,11 +89,10 @@ pub fn carry_out(heap: Global, rule: &Rule, file: &[u8]) -> Result<Table, AllocE
         lines: 0,
         missed: Vec::new(heap),
     };
-    let mut rest = file;
-    while rest.len() > 0 {
-        let n = line_length(rest);
-        table.add_line(rule, &rest[0..n])?;
-        rest = behind_line(rest, n);
+    let mut room = [0u8; 512];
+    for line in file.split_inclusive(|byte| *byte == b'\n') {
+        let line = line.strip_suffix(b"\n").unwrap_or(line);
+        table.add_line(rule, line, &mut room)?;
     }
     Ok(table)
 }

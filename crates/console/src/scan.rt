@@ -1,5 +1,5 @@
 // Words, bytes and numbers read from text.
-ghost use Rattle.std.specs.Prelude.{◌≡◌, ◌<◌, drop, IfOk, Some, None, MatchOption};
+ghost use Rattle.std.specs.Prelude.{◌≡◌, ◌<◌, drop, length, IfOk, IfErr, Some, None, MatchOption};
 ghost use Rattle.console.specs.Reading.{strip, front, begins_number, read_second, past_second, read_digit, read_hex, read_escaped, read_byte, read_number};
 ghost use Rattle.console.specs.Told.{Tells};
 
@@ -17,18 +17,14 @@ pub fn strip<'a>(word: &[u8], text: &'a [u8]) -> Option<&'a [u8]>
     text.strip_prefix(word)
 }
 
-// The first byte, or 0 at the end of the text: no rule's text has a byte 0.
-fn front(text: &[u8]) -> u8
-    ensures { result ≡ front text.now }
+// The text after a word that has to stand there.
+pub fn expect<'a>(word: &[u8], text: &'a [u8], wanted: Expected) -> Result<&'a [u8], Failed>
+    ensures ok { IfOk result (λ rest. strip word.now text.now ≡ Some rest.now) }
+    ensures none { IfErr result (λ _. strip word.now text.now ≡ None) }
+    ensures left { IfErr result (λ f. f.left ≡ length text.now) }
+    ensures expected { IfErr result (λ f. f.expected ≡ wanted) }
 {
-    if text.len() > 0 { text[0] } else { 0 }
-}
-
-// What follows the first byte.
-fn past(text: &[u8]) -> &[u8]
-    ensures { result.now ≡ drop 1 text.now }
-{
-    if text.len() > 0 { &text[1..] } else { text }
+    strip(word, text).ok_or(Failed::at(text, wanted))
 }
 
 // A hexadecimal digit.
@@ -36,9 +32,9 @@ fn read_digit(text: &[u8]) -> Reading<'_, u8>
     ensures told { Tells (λ d. d) (read_digit text.now) result }
     ensures small { IfOk result (λ p. p.0 < 16) }
 {
-    match front(text) {
-        byte @ b'0'..=b'9' => Ok((byte - b'0', past(text))),
-        byte @ b'a'..=b'f' => Ok((byte - b'a' + 10, past(text))),
+    match text {
+        [byte @ b'0'..=b'9', rest @ ..] => Ok((byte - b'0', rest)),
+        [byte @ b'a'..=b'f', rest @ ..] => Ok((byte - b'a' + 10, rest)),
         _ => Err(Failed::at(text, Expected::Digit)),
     }
 }
@@ -55,68 +51,54 @@ fn read_hex(text: &[u8]) -> Reading<'_, u8>
 fn read_escaped(text: &[u8]) -> Reading<'_, u8>
     ensures { Tells (λ c. c) (read_escaped text.now) result }
 {
-    let byte = front(text);
-    if words::is_marked(byte) {
-        Ok((byte, past(text)))
-    } else if byte == b'x' {
-        read_hex(past(text))
-    } else {
-        Err(Failed::at(text, Expected::Escape))
+    match text {
+        [byte, rest @ ..] if words::is_marked(*byte) => Ok((*byte, rest)),
+        [b'x', rest @ ..] => read_hex(rest),
+        _ => Err(Failed::at(text, Expected::Escape)),
     }
 }
 
 // A byte of what stands in quotes.
+#[tactic(auto, unfolding(crate::specs::Reading::read_byte))]
 pub fn read_byte(text: &[u8]) -> Reading<'_, u8>
     ensures { Tells (λ c. c) (read_byte text.now) result }
 {
-    let byte = front(text);
-    if byte == b'\\' {
-        read_escaped(past(text))
-    } else if words::is_plain(byte) {
-        Ok((byte, past(text)))
-    } else {
-        Err(Failed::at(text, Expected::Byte))
+    match text {
+        [b'\\', rest @ ..] => read_escaped(rest),
+        [byte, rest @ ..] if words::is_plain(*byte) => Ok((*byte, rest)),
+        _ => Err(Failed::at(text, Expected::Byte)),
     }
 }
 
 pub fn begins_number(text: &[u8]) -> bool
     ensures { result ≡ begins_number text.now }
 {
-    let byte = front(text);
-    b'1' <= byte && byte <= b'9'
+    matches!(text, [b'1'..=b'9', ..])
 }
 
-// The number of one digit, or of two if another follows.
-fn with_second(first: u8, text: &[u8]) -> u8
+// The number of this digit, or of two if another follows; and the text behind it.
+fn with_second(first: u8, text: &[u8]) -> (u8, &[u8])
     requires { first < 10 }
-    ensures { result ≡ read_second first text.now }
+    ensures number { result.0 ≡ read_second first text.now }
+    ensures behind { result.1.now ≡ past_second text.now }
 {
-    match front(text) {
-        byte @ b'0'..=b'9' => 10 * first + (byte - b'0'),
-        _ => first,
-    }
-}
-
-fn past_second(text: &[u8]) -> &[u8]
-    ensures { result.now ≡ past_second text.now }
-{
-    match front(text) {
-        b'0'..=b'9' => past(text),
-        _ => text,
+    match text {
+        [second @ b'0'..=b'9', rest @ ..] => (10 * first + (second - b'0'), rest),
+        _ => (first, text),
     }
 }
 
 // A number from 1 to 64.
+#[tactic(auto, unfolding(crate::specs::Reading::read_number))]
 pub fn read_number(text: &[u8]) -> Reading<'_, u8>
     ensures { Tells (λ n. n) (read_number text.now) result }
 {
-    if !begins_number(text) {
+    let [first @ b'1'..=b'9', rest @ ..] = text else {
         return Err(Failed::at(text, Expected::Number));
-    }
-    let rest = past(text);
-    let number = with_second(front(text) - b'0', rest);
+    };
+    let (number, rest) = with_second(first - b'0', rest);
     if number > 64 {
         return Err(Failed::at(text, Expected::Number));
     }
-    Ok((number, past_second(rest)))
+    Ok((number, rest))
 }

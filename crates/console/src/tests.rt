@@ -7,12 +7,9 @@ use std::test::*;
 // The rule that is read from the spelling of this one.
 fn spelled_and_read(rt: &(impl Abort + AllocGlobal), rule: &Rule) -> Result<Rule, Fail> {
     let mut room = [0u8; 529];
-    let n = rule.spelled(&mut room).ok().ok_or("no room")?;
-    assert!(rt; n <= room.len());
-    let read = Rule::from_spelling(rt.alloc(), &room[0..n])
-        .ok()
-        .ok_or("no rule")?;
-    Ok(read)
+    let n = rule.spelled(&mut room).map_err(|_| "no room")?;
+    let spelling = room.get(..n).ok_or("too long")?;
+    Ok(Rule::from_spelling(rt.alloc(), spelling).map_err(|_| "no rule")?)
 }
 
 // The text is a rule's, and what is printed of that rule, also after it was spelled and read again.
@@ -47,13 +44,9 @@ fn is_refused(
     byte: usize,
     expected: Expected,
 ) -> Result<(), Fail> {
-    match read_rule(rt.alloc(), text.as_bytes()) {
-        Ok(_) => Err(Fail::new("the text was read")),
-        Err(why) => {
-            assert_eq!(rt; why, NotARule::At { byte, expected }, "{text}");
-            Ok(())
-        }
-    }
+    let why = read_rule(rt.alloc(), text.as_bytes()).err();
+    assert_eq!(rt; why, Some(NotARule::At { byte, expected }), "{text}");
+    Ok(())
 }
 
 #[test]

@@ -1,5 +1,5 @@
 // The words of which a rule's text is made, and the bytes that stand in its quotes.
-ghost use Rattle.std.specs.Prelude.{◌≡◌, true, false, codes};
+ghost use Rattle.std.specs.Prelude.{◌≡◌, codes};
 ghost use Rattle.rules.specs.Lists.{pick};
 ghost use Rattle.rules.specs.Values.{kind_number, the_place};
 ghost use Rattle.console.specs.Text.{utf8, marked, plain, ordinal_end, count_end, run_text, to_text};
@@ -18,27 +18,25 @@ pub fn is_utf8(bytes: &[u8]) -> bool
 pub fn is_marked(byte: u8) -> bool
     ensures { result ≡ marked byte }
 {
-    byte == b'"' || byte == b'\\'
+    matches!(byte, b'"' | b'\\')
 }
 
 // A byte that may stand as it is.
 pub fn is_plain(byte: u8) -> bool
     ensures { result ≡ plain byte }
 {
-    byte >= 32 && byte != 127 && !is_marked(byte)
+    !byte.is_ascii_control() && !is_marked(byte)
 }
 
 // What makes the second of 2, and so on.
 pub fn ordinal_end(n: u8) -> &'static [u8]
     ensures { result.now ≡ ordinal_end n }
 {
-    if n / 10 == 1 {
-        return b"th";
-    }
-    match n % 10 {
-        1 => b"st",
-        2 => b"nd",
-        3 => b"rd",
+    match (n / 10, n % 10) {
+        (1, _) => b"th",
+        (_, 1) => b"st",
+        (_, 2) => b"nd",
+        (_, 3) => b"rd",
         _ => b"th",
     }
 }
@@ -54,41 +52,22 @@ pub fn count_end(n: u8) -> &'static [u8]
     }
 }
 
-// That a run of this kind ends.
-fn run_ends(kind: Kind) -> &'static [u8]
-    ensures { result.now ≡ run_text true (kind_number kind) }
-{
-    match kind {
-        Kind::Digits => b"digits end",
-        Kind::Letters => b"a run of letters ends",
-        Kind::Capitals => b"capitals end",
-        Kind::SmallLetters => b"small letters end",
-        Kind::Blanks => b"blanks end",
-        Kind::Anything | Kind::Sign(_) => b"",
-    }
-}
-
-// That one begins.
-fn run_begins(kind: Kind) -> &'static [u8]
-    ensures { result.now ≡ run_text false (kind_number kind) }
-{
-    match kind {
-        Kind::Digits => b"digits begin",
-        Kind::Letters => b"a run of letters begins",
-        Kind::Capitals => b"capitals begin",
-        Kind::SmallLetters => b"small letters begin",
-        Kind::Blanks => b"blanks begin",
-        Kind::Anything | Kind::Sign(_) => b"",
-    }
-}
-
+// That a run of this kind ends, or begins.
 pub fn run_words(ends: bool, kind: Kind) -> &'static [u8]
     ensures { result.now ≡ run_text ends (kind_number kind) }
 {
-    if ends {
-        run_ends(kind)
-    } else {
-        run_begins(kind)
+    match (kind, ends) {
+        (Kind::Digits, true) => b"digits end",
+        (Kind::Digits, false) => b"digits begin",
+        (Kind::Letters, true) => b"a run of letters ends",
+        (Kind::Letters, false) => b"a run of letters begins",
+        (Kind::Capitals, true) => b"capitals end",
+        (Kind::Capitals, false) => b"capitals begin",
+        (Kind::SmallLetters, true) => b"small letters end",
+        (Kind::SmallLetters, false) => b"small letters begin",
+        (Kind::Blanks, true) => b"blanks end",
+        (Kind::Blanks, false) => b"blanks begin",
+        (Kind::Anything | Kind::Sign(_), _) => b"",
     }
 }
 

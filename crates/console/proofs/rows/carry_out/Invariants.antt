@@ -1,10 +1,11 @@
-use Rattle.std.proofs.Common.{length}
+use Rattle.std.specs.Slice.Iter.{split_inclusive_rest}
 use Rattle.rules.specs.Held.{the_rule}
 use Rattle.console.proofs.LinesGoneThrough.{Going}
 use Rattle.console.proofs.rows.carry_out.Given as goal
 
-abbrev pub invariant-loop-rest : goal.invariant-loop-rest
-invariant-loop-rest l = Going (the_rule l.rule) l.file l.rest l.table
-
-abbrev pub decreases-loop-rest : goal.decreases-loop-rest
-decreases-loop-rest l = length l.rest
+abbrev pub invariant-loop-line : goal.invariant-loop-line
+invariant-loop-line l = record {
+  can : (goal.iterator-loop-line).can_next l.line-iterator;
+  finite : (goal.iterator-loop-line).is_finite l.line-iterator;
+  going : Going (the_rule l.rule) l.file (split_inclusive_rest l.line-iterator) l.table;
+}
