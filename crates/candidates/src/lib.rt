@@ -12,6 +12,7 @@ mod position;
 mod problem;
 mod promises;
 mod row;
+mod rows;
 mod same;
 mod small;
 mod spelled;

@@ -4,6 +4,7 @@ ghost use Rattle.candidates.specs.Problem.{view_of, given_in, wanted_in};
 ghost use Rattle.candidates.specs.Viewed.{the_view};
 
 use crate::problem::Problem;
+use crate::rows::Rows;
 
 impl<'a> Problem<'a> {
     // The numbers that a problem was laid down in, as a problem.
@@ -13,10 +14,12 @@ impl<'a> Problem<'a> {
     {
         Problem {
             examples: (numbers[0] as usize).min(8),
-            rows: (numbers[1] as usize).min(6500),
+            rows: Rows {
+                numbers: &numbers[5866..109866],
+                count: (numbers[1] as usize).min(6500),
+            },
             texts: &numbers[16..1186],
             guide: &numbers[1186..5866],
-            table: &numbers[5866..109866],
         }
     }
 
