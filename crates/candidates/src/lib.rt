@@ -13,7 +13,6 @@ mod problem;
 mod promises;
 mod row;
 mod rows;
-mod same;
 mod small;
 mod spelled;
 mod table;

@@ -1,5 +1,5 @@
 // A look at a candidate part: where it leads from a state, and what it weighs. Given and wanted texts are gone through side by side.
-ghost use Rattle.std.specs.Prelude.{◌≡◌, ◌+◌, ◌<◌, ◌≤◌, true, false, ◌&&◌, length};
+ghost use Rattle.std.specs.Prelude.{◌≡◌, ◌==◌, ◌+◌, ◌<◌, ◌≤◌, true, false, ◌&&◌, length};
 ghost use Rattle.rules.specs.Answers.{slice_made};
 ghost use Rattle.candidates.specs.Problem.{given_in, wanted_in, middle_in, piece_goes, count_in, cut_piece, all_at_end, greatest, guide_in};
 ghost use Rattle.candidates.specs.Looked.{looked, next_position, next_by, moved_by, pieces, Within, Light};
@@ -8,7 +8,6 @@ ghost use Rattle.candidates.specs.Viewed.{the_view};
 
 use crate::candidate::Candidate;
 use crate::problem::Problem;
-use crate::same::is_same;
 
 // A state is how far each wanted text has been made: one number for each of up to eight examples, and one more.
 // Where a candidate leads, and what it weighs.
@@ -23,16 +22,8 @@ fn next_position(piece: &[u64], wanted: &[u64], at: u64) -> Option<u64>
     requires { length wanted.now ≤ 64 }
     ensures { result ≡ next_position piece.now wanted.now at }
 {
-    let from = at as usize;
-    if from > wanted.len() {
-        return None;
-    }
-    let to = from + piece.len();
-    if to <= wanted.len() && is_same(piece, &wanted[from..to]) {
-        Some(to as u64)
-    } else {
-        None
-    }
+    let rest = wanted.get(at as usize..)?;
+    rest.starts_with(piece).then_some(at + piece.len() as u64)
 }
 
 impl<'a> Problem<'a> {
@@ -96,16 +87,19 @@ impl<'a> Problem<'a> {
         })
     }
 
+    // Whether the wanted text of an example ends at a position.
+    fn ends_at(self, e: usize, at: u64) -> bool
+        requires { e < 8 }
+        ensures { result ≡ (at == length (wanted_in (the_view self.entry) e)) }
+    {
+        at as usize == self.wanted(e).len()
+    }
+
     // Whether every wanted text has been made.
     pub fn at_end(self, state: &[u64; 9]) -> bool
         ensures { result ≡ all_at_end (the_view self.entry) (the_view self.entry).examples state.now }
     {
-        for e in 0..self.examples {
-            if state[e] as usize != self.wanted(e).len() {
-                return false;
-            }
-        }
-        true
+        (0..self.examples).all(|e| self.ends_at(e, state[e]))
     }
 
     // What is still needed at least, with so many parts at most: the most that one example needs.
@@ -114,11 +108,8 @@ impl<'a> Problem<'a> {
         ensures value { result ≡ greatest (the_view self.entry) parts (the_view self.entry).examples state.now }
         ensures bound { result < 4294967296 }
     {
-        let mut most = 0u64;
-        for e in 0..self.examples {
-            most = most.max(self.guide_of(e, state[e], parts));
-        }
-        most
+        (0..self.examples)
+            .fold(0, |most, e| most.max(self.guide_of(e, state[e], parts)))
     }
 
     // What one example needs.
