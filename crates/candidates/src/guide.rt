@@ -11,6 +11,11 @@ use crate::example::Example;
 // More than any rule weighs.
 const FAR: u64 = 65536;
 
+// A guide has a column for each of up to 65 positions, with a number for each number of parts from 0 to 8.
+const POSITIONS: usize = 65;
+pub(crate) const COLUMN: usize = 9;
+pub(crate) const GUIDE_OF_ONE: usize = 585;
+
 fn smaller(a: u64, b: u64) -> u64
     ensures { result ≡ smaller a b }
 {

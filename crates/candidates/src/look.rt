@@ -1,5 +1,5 @@
 // A look at a candidate part: where it leads from a state, and what it weighs. Given and wanted texts are gone through side by side.
-ghost use Rattle.std.specs.Prelude.{◌≡◌, ◌==◌, ◌+◌, ◌<◌, ◌≤◌, true, false, ◌&&◌, length};
+ghost use Rattle.std.specs.Prelude.{◌≡◌, ◌+◌, ◌<◌, ◌≤◌, true, false, ◌&&◌, length};
 ghost use Rattle.rules.specs.Answers.{slice_made};
 ghost use Rattle.candidates.specs.Problem.{given_in, wanted_in, middle_in, piece_goes, count_in, cut_piece, all_at_end, greatest, guide_in};
 ghost use Rattle.candidates.specs.Looked.{looked, next_position, next_by, moved_by, pieces, Within, Light};
@@ -7,6 +7,7 @@ ghost use Rattle.candidates.specs.RowTable.{most_rows};
 ghost use Rattle.candidates.specs.Viewed.{the_view};
 
 use crate::candidate::Candidate;
+use crate::guide::{COLUMN, GUIDE_OF_ONE};
 use crate::problem::Problem;
 
 // A state is how far each wanted text has been made: one number for each of up to eight examples, and one more.
@@ -87,19 +88,11 @@ impl<'a> Problem<'a> {
         })
     }
 
-    // Whether the wanted text of an example ends at a position.
-    fn ends_at(self, e: usize, at: u64) -> bool
-        requires { e < 8 }
-        ensures { result ≡ (at == length (wanted_in (the_view self.entry) e)) }
-    {
-        at as usize == self.wanted(e).len()
-    }
-
     // Whether every wanted text has been made.
     pub fn at_end(self, state: &[u64; 9]) -> bool
         ensures { result ≡ all_at_end (the_view self.entry) (the_view self.entry).examples state.now }
     {
-        (0..self.examples).all(|e| self.ends_at(e, state[e]))
+        (0..self.examples).all(|e| state[e] as usize == self.wanted(e).len())
     }
 
     // What is still needed at least, with so many parts at most: the most that one example needs.
@@ -120,7 +113,7 @@ impl<'a> Problem<'a> {
         ensures bound { result < 4294967296 }
     {
         if at <= 64 {
-            self.guide[585 * e + 9 * at as usize + parts] % 4294967296
+            self.guide[GUIDE_OF_ONE * e + COLUMN * at as usize + parts] % (1 << 32)
         } else {
             0
         }

@@ -3,6 +3,15 @@ ghost use Rattle.std.specs.Prelude.{◌≡◌, ◌≤◌, length};
 
 use crate::rows::Rows;
 
+// Where the texts, the guide and the rows begin in the numbers of a problem, and where they end.
+pub(crate) const TEXTS: usize = 16;
+pub(crate) const GUIDE: usize = 1186;
+pub(crate) const TABLE: usize = 5866;
+pub(crate) const END: usize = 109866;
+
+// As many examples as there can be.
+pub(crate) const MOST_EXAMPLES: usize = 8;
+
 // A view of the numbers of a problem.
 #[derive(Clone, Copy)]
 pub struct Problem<'a> {

@@ -7,6 +7,9 @@ const ROW: usize = 16;
 const COST: usize = 5;
 const FIRST_POSITION: usize = 6;
 
+// As many rows as there can be.
+pub(crate) const MOST_ROWS: usize = 6500;
+
 #[derive(Clone, Copy)]
 pub(crate) struct Rows<'a> {
     pub numbers: &'a [u64],
