@@ -72,6 +72,11 @@ unfoldable pub least_in : ℕ → List ℕ → List ℕ → ℕ
 least_in k [] m = far
 least_in k (n ∷ ns) m = smaller (n + slice_index m k) (least_in k ns (drop 9 m))
 
+-- what is needed with k parts: with none, no rule will do
+abbrev pub needed_with : List ℕ → List ℕ → ℕ → ℕ
+needed_with ns m zero = far
+needed_with ns m (suc k) = least_in k ns m
+
 -- the column before those in m
 abbrev pub column_in : List ℕ → List ℕ → List ℕ
 column_in ns m =

@@ -7,7 +7,7 @@ ghost use Rattle.candidates.specs.RowTable.{most_rows};
 ghost use Rattle.candidates.specs.Viewed.{the_view};
 
 use crate::candidate::Candidate;
-use crate::guide::{COLUMN, GUIDE_OF_ONE};
+use crate::guide::{COLUMN, GUIDE};
 use crate::problem::Problem;
 
 // A state is how far each wanted text has been made: one number for each of up to eight examples, and one more.
@@ -113,7 +113,7 @@ impl<'a> Problem<'a> {
         ensures bound { result < 4294967296 }
     {
         if at <= 64 {
-            self.guide[GUIDE_OF_ONE * e + COLUMN * at as usize + parts] % (1 << 32)
+            self.guide[GUIDE * e + COLUMN * at as usize + parts] % (1 << 32)
         } else {
             0
         }

@@ -3,7 +3,7 @@ ghost use Rattle.std.specs.Prelude.{◌≡◌, ◌+◌, ◌<◌, ◌≤◌, min,
 ghost use Rattle.candidates.specs.Problem.{view_of, given_in, wanted_in};
 ghost use Rattle.candidates.specs.Viewed.{the_view};
 
-use crate::problem::{END, GUIDE, MOST_EXAMPLES, Problem, TABLE, TEXTS};
+use crate::problem::{SIZE, GUIDE_AT, MOST_EXAMPLES, Problem, TABLE_AT, TEXTS_AT};
 use crate::rows::{MOST_ROWS, Rows};
 
 // The numbers of an example: how long its given text is, and its wanted one, then room for the texts.
@@ -21,11 +21,11 @@ impl<'a> Problem<'a> {
         Problem {
             examples: (numbers[0] as usize).min(MOST_EXAMPLES),
             rows: Rows {
-                numbers: &numbers[TABLE..END],
+                numbers: &numbers[TABLE_AT..SIZE],
                 count: (numbers[1] as usize).min(MOST_ROWS),
             },
-            texts: &numbers[TEXTS..GUIDE],
-            guide: &numbers[GUIDE..TABLE],
+            texts: &numbers[TEXTS_AT..GUIDE_AT],
+            guide: &numbers[GUIDE_AT..TABLE_AT],
         }
     }
 

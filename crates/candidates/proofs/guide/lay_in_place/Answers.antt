@@ -5,4 +5,5 @@ use Rattle.candidates.proofs.guide.lay_in_place.Goals as goal
 
 pub returns : goal.returns
 returns c =
-    guide_put c.args.out.now c.lay_guide.new.out (columns c.args.costs.now c.args.given.now c.args.wanted.now) c.args.e c.lay_guide.ensures
+    let example = c.args.example in
+    guide_put c.args.out.now c.lay_guide.new.out (columns example.costs.now example.given.now example.wanted.now) c.args.e c.lay_guide.ensures
