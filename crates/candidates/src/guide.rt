@@ -1,5 +1,6 @@
 // A lower bound of the weight that one example alone still needs, by position in its wanted text and by the number of parts.
-ghost use Rattle.std.specs.Prelude.{◌≡◌, ℕ, ◌+◌, ◌*◌, ◌<◌, ◌≤◌, true, [], length, drop, replicate, slice_index_or};
+ghost use Rattle.std.specs.List.{zip, prefix_len};
+ghost use Rattle.std.specs.Prelude.{◌≡◌, ◌==◌, ℕ, ◌+◌, ◌*◌, ◌<◌, ◌≤◌, true, [], length, drop, replicate, slice_index_or};
 ghost use Rattle.rules.specs.Lists.{every};
 ghost use Rattle.candidates.specs.Guide.{lowered, least_costs, along, steps, least_in, column_in, needed_with, with_column, columns, laid_columns, all_costs, with_guide, guides_laid, NoneAbove};
 ghost use Rattle.candidates.specs.Rows.{short_example};
@@ -62,6 +63,17 @@ pub(crate) fn all_costs(table: &[u64], rows: usize) -> [[u64; POSITIONS]; MOST_E
     )
 }
 
+// How many bytes two texts begin alike with.
+fn alike(given: &[u8], wanted: &[u8]) -> usize
+    ensures { result ≡ prefix_len (λ (p : ℕ × ℕ). p.0 == p.1) (zip given.now wanted.now) }
+{
+    given
+        .iter()
+        .zip(wanted)
+        .take_while(|(g, w)| g == w)
+        .count()
+}
+
 // Cuts from a place that costs so much, along given and wanted bytes as long as they are alike.
 fn along(room: &mut [u64], from: u64, costs: &[u64], given: &[u8], wanted: &[u8])
     requires room_for_wanted { length wanted.now ≤ length room.old }
@@ -70,11 +82,8 @@ fn along(room: &mut [u64], from: u64, costs: &[u64], given: &[u8], wanted: &[u8]
     requires costs_small { NoneAbove 255 costs.now }
     ensures { room.new ≡ along from costs.now given.now wanted.now room.old }
 {
-    for d in 0..given.len().min(wanted.len()) {
-        if given[d] != wanted[d] {
-            return;
-        }
-        room[d] = room[d].min(16 * (7 + from + costs[d]) + 1);
+    for (d, cost) in costs[..alike(given, wanted)].iter().enumerate() {
+        room[d] = room[d].min(16 * (7 + from + cost) + 1);
     }
 }
 
