@@ -105,8 +105,8 @@ impl<'a> Steps<'a> {
         ensures { result ≡ least_in k self.entry.weights.now self.entry.behind.now }
     {
         let mut least = FAR;
-        for (i, weight) in self.weights.iter().enumerate() {
-            least = least.min(weight + self.behind[COLUMN * i + k]);
+        for (weight, column) in self.weights.iter().zip(self.behind.chunks_exact(COLUMN)) {
+            least = least.min(weight + column[k]);
         }
         least
     }
