@@ -63,10 +63,6 @@ least_costs t e zero cs = cs
 least_costs t e (suc n) cs = lowered (least_costs t e n cs) (row_number t n (6 + e)) (row_number t n 5)
 
 -- IN MEMORY
--- 65 columns of 9 numbers for an example
-abbrev pub guide_size : ℕ
-guide_size = 585
-
 -- the least of a step and what is needed behind it with k parts, where the columns lie one behind the other in m
 unfoldable pub least_in : ℕ → List ℕ → List ℕ → ℕ
 least_in k [] m = far

@@ -24,9 +24,6 @@ asked_position (t ∷ ts) p = position t p
 abbrev pub row_of : List Example → List (List ℕ) → Place → List ℕ
 row_of es asked p = place_numbers p ++ (place_cost p ∷ (positions_in es 8 p ++ (asked_position asked p ∷ 0 ∷ [])))
 
-abbrev pub row_size : ℕ
-row_size = 16
-
 -- as many rows as there can be, and their numbers
 abbrev pub most_rows : ℕ
 most_rows = 6500

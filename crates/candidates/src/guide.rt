@@ -2,7 +2,7 @@
 ghost use Rattle.std.specs.List.{zip, prefix_len};
 ghost use Rattle.std.specs.Prelude.{◌≡◌, ◌==◌, ℕ, ◌+◌, ◌*◌, ◌<◌, ◌≤◌, true, [], length, drop, replicate, slice_index_or};
 ghost use Rattle.rules.specs.Lists.{every};
-ghost use Rattle.candidates.specs.Guide.{lowered, least_costs, along, steps, least_in, column_in, needed_with, with_column, columns, laid_columns, all_costs, with_guide, guides_laid, NoneAbove};
+ghost use Rattle.candidates.specs.Guide.{lowered, least_costs, along, steps, least_in, column_in, needed_with, with_column, columns, laid_columns, all_costs, guides_laid, NoneAbove};
 ghost use Rattle.candidates.specs.Rows.{short_example};
 ghost use Rattle.candidates.specs.RowTable.{table_size, most_rows};
 ghost use Rattle.candidates.specs.Values.{the_examples};
@@ -205,15 +205,6 @@ impl<'a> CostedExample<'a> {
     }
 }
 
-// Lays down the guide of an example in the place of example e.
-fn lay_in_place(out: &mut [u64], e: usize, example: CostedExample)
-    requires size { length out.old ≡ 4680 }
-    requires one_of_eight { e < 8 }
-    ensures { out.new ≡ with_guide out.old e (columns example.entry.costs.now example.entry.given.now example.entry.wanted.now) }
-{
-    example.lay_guide(&mut out[GUIDE * e..GUIDE * e + GUIDE]);
-}
-
 // Lays down the guides of all examples, those of one behind those of the other.
 pub(crate) fn lay_guides(
     out: &mut [u64],
@@ -232,6 +223,6 @@ pub(crate) fn lay_guides(
             given: example.given,
             wanted: example.wanted,
         };
-        lay_in_place(out, e, costed);
+        costed.lay_guide(&mut out[GUIDE * e..GUIDE * e + GUIDE]);
     }
 }

@@ -16,5 +16,5 @@ invariant_of-costed c =
 
 pub loop-e-preserved : goal.loop-e-preserved
 loop-e-preserved c =
-    guides_goes_on c.args.costs.now c.args.examples.now c.args.out.now c.loop-e.out c.lay_in_place.new.out c.loop-e.e _ (omega arith)
-    c.lay_in_place.ensures c.loop-e.invariant
+    guides_goes_on c.args.costs.now c.args.examples.now c.args.out.now c.loop-e.out c.lay_guide.new.out c.loop-e.e _ (omega arith)
+    c.lay_guide.ensures c.loop-e.invariant
