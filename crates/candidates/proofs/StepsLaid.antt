@@ -56,7 +56,7 @@ alike_past (g ∷ gs) (w ∷ ws) h k e = go (eqb g w) refl (alike_past gs ws) h 
     go : (x : Bool) → eqb g w ≡ x → (alike gs ws < length gs → alike gs ws < length ws → get_or gs (alike gs ws) 0 ≡ get_or ws (alike gs ws) 0 → ⊥)
         → cond x (1 + alike gs ws) 0 < suc (length gs) → cond x (1 + alike gs ws) 0 < suc (length ws)
         → get_or (g ∷ gs) (cond x (1 + alike gs ws) 0) 0 ≡ get_or (w ∷ ws) (cond x (1 + alike gs ws) 0) 0 → ⊥
-    go true t past h k e = 
+    go true t past h k e =
         let one : 1 + alike gs ws ≡ suc (alike gs ws) = omega arith in
         past (omega arith) (omega arith) (subst (λ n. get_or (g ∷ gs) n 0 ≡ get_or (w ∷ ws) n 0) one e)
     go false t past h k e = grind (arith, nat_tests)

@@ -20,7 +20,9 @@ const NO_PLACE: u64 = 255;
 
 // A guide has a column for each position of a wanted text, with a number for each number of parts from 0 to 8.
 const POSITIONS: usize = 65;
+
 pub(crate) const COLUMN: usize = 9;
+
 pub(crate) const GUIDE: usize = POSITIONS * COLUMN;
 
 // The cost at a position is lowered to this one, if that is less; a position past the last is passed over.
@@ -67,11 +69,7 @@ pub(crate) fn all_costs(table: &[u64], rows: usize) -> [[u64; POSITIONS]; MOST_E
 fn alike(given: &[u8], wanted: &[u8]) -> usize
     ensures { result ≡ prefix_len (λ (p : ℕ × ℕ). p.0 == p.1) (zip given.now wanted.now) }
 {
-    given
-        .iter()
-        .zip(wanted)
-        .take_while(|(g, w)| g == w)
-        .count()
+    given.iter().zip(wanted).take_while(|(g, w)| g == w).count()
 }
 
 // Cuts from a place that costs so much, along given and wanted bytes as long as they are alike.

@@ -101,8 +101,7 @@ impl<'a> Problem<'a> {
         ensures value { result ≡ greatest (the_view self.entry) parts (the_view self.entry).examples state.now }
         ensures bound { result < 4294967296 }
     {
-        (0..self.examples)
-            .fold(0, |most, e| most.max(self.guide_of(e, state[e], parts)))
+        (0..self.examples).fold(0, |most, e| most.max(self.guide_of(e, state[e], parts)))
     }
 
     // What one example needs.

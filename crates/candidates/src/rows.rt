@@ -4,7 +4,9 @@ ghost use Rattle.candidates.specs.RowTable.{row_number, table_size, most_rows};
 
 // A row has 16 numbers: five that say its place, what that costs, where it lies in each of eight given texts and in the asked one, and 0.
 const ROW: usize = 16;
+
 const COST: usize = 5;
+
 const FIRST_POSITION: usize = 6;
 
 // As many rows as there can be.
@@ -22,11 +24,9 @@ impl<'a> Rows<'a> {
     // The numbers that say the place of a row.
     pub fn place(self, row: usize) -> [u64; 5]
         requires { row < most_rows }
-        ensures {
-            result
+        ensures { result
             ≡ row_number self.entry.numbers.now row 0 ∷ row_number self.entry.numbers.now row 1 ∷ row_number self.entry.numbers.now row 2
-            ∷ row_number self.entry.numbers.now row 3 ∷ row_number self.entry.numbers.now row 4 ∷ []
-        }
+            ∷ row_number self.entry.numbers.now row 3 ∷ row_number self.entry.numbers.now row 4 ∷ [] }
     {
         let from = ROW * row;
         [

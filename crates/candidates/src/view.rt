@@ -3,13 +3,16 @@ ghost use Rattle.std.specs.Prelude.{◌≡◌, ◌+◌, ◌<◌, ◌≤◌, min,
 ghost use Rattle.candidates.specs.Problem.{view_of, given_in, wanted_in};
 ghost use Rattle.candidates.specs.Viewed.{the_view};
 
-use crate::problem::{SIZE, GUIDE_AT, MOST_EXAMPLES, Problem, TABLE_AT, TEXTS_AT};
+use crate::problem::{GUIDE_AT, MOST_EXAMPLES, Problem, SIZE, TABLE_AT, TEXTS_AT};
 use crate::rows::{MOST_ROWS, Rows};
 
 // The numbers of an example: how long its given text is, and its wanted one, then room for the texts.
 const EXAMPLE: usize = 130;
+
 const GIVEN: usize = 2;
+
 const WANTED: usize = 66;
+
 const TEXT: usize = 64;
 
 impl<'a> Problem<'a> {
