@@ -7,6 +7,7 @@ ghost use Rattle.candidates.specs.Viewed.{the_view};
 
 use crate::candidate::Candidate;
 use crate::problem::Problem;
+use crate::weight::{cut_weight, literal_weight};
 
 impl<'a> Problem<'a> {
     // How many literals can go on: as many as bytes of the first wanted text are still to be made.
@@ -80,15 +81,15 @@ impl<'a> Problem<'a> {
         self.rows.cost(row) % 256
     }
 
-    // What a candidate weighs: 16 for each unit of its cost, and 1 for the part.
+    // What a candidate weighs.
     pub fn weight(self, candidate: Candidate<'a>) -> u64
         requires { Within candidate }
         ensures value { result ≡ weighs (the_view self.entry) candidate.entry }
         ensures bound { result < 16384 }
     {
         match candidate {
-            Candidate::Literal(bytes) => 16 * (5 + 4 * bytes.len() as u64) + 1,
-            Candidate::Cut { from, to } => 16 * (7 + self.row_cost(from) + self.row_cost(to)) + 1,
+            Candidate::Literal(bytes) => literal_weight(bytes.len() as u64),
+            Candidate::Cut { from, to } => cut_weight(self.row_cost(from), self.row_cost(to)),
         }
     }
 }

@@ -8,8 +8,9 @@ ghost use Rattle.candidates.specs.RowTable.{table_size, most_rows};
 ghost use Rattle.candidates.specs.Values.{the_examples};
 
 use crate::example::Example;
-use crate::problem::MOST_EXAMPLES;
+use crate::memory::{COLUMN, GUIDE, MOST_BYTES, MOST_EXAMPLES, POSITIONS};
 use crate::rows::Rows;
+use crate::weight::{cut_weight, literal_weight};
 use std::array;
 
 // More than any rule weighs.
@@ -17,13 +18,6 @@ const FAR: u64 = 65536;
 
 // What is said of a position where no place is: as much as any costs.
 const NO_PLACE: u64 = 255;
-
-// A guide has a column for each position of a wanted text, with a number for each number of parts from 0 to 8.
-const POSITIONS: usize = 65;
-
-pub(crate) const COLUMN: usize = 9;
-
-pub(crate) const GUIDE: usize = POSITIONS * COLUMN;
 
 // The cost at a position is lowered to this one, if that is less; a position past the last is passed over.
 fn lower(costs: &mut [u64; POSITIONS], at: u64, cost: u64)
@@ -81,7 +75,7 @@ fn along(room: &mut [u64], from: u64, costs: &[u64], given: &[u8], wanted: &[u8]
     ensures { room.new ≡ along from costs.now given.now wanted.now room.old }
 {
     for (d, cost) in costs[..alike(given, wanted)].iter().enumerate() {
-        room[d] = room[d].min(16 * (7 + from + cost) + 1);
+        room[d] = room[d].min(cut_weight(from, *cost));
     }
 }
 
@@ -164,7 +158,7 @@ impl<'a> CostedExample<'a> {
         ensures small { NoneAbove 4177 room.new }
     {
         for (d, step) in room.iter_mut().enumerate() {
-            *step = 16 * (5 + 4 * (d as u64 + 1)) + 1;
+            *step = literal_weight(d as u64 + 1);
         }
         let CostedExample {
             costs,
@@ -182,7 +176,7 @@ impl<'a> CostedExample<'a> {
         requires behind_small { NoneAbove 65536 behind.now }
         ensures { result ≡ column_in (steps self.entry.costs.now self.entry.given.now self.entry.wanted.now) behind.now }
     {
-        let mut room = [0u64; 64];
+        let mut room = [0u64; MOST_BYTES];
         let weights = &mut room[..self.wanted.len()];
         self.lay_steps(weights);
         Steps { weights, behind }.column()

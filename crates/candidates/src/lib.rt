@@ -8,6 +8,7 @@ mod guide;
 mod kinds;
 mod layout;
 mod look;
+mod memory;
 mod position;
 mod problem;
 mod promises;
@@ -19,6 +20,7 @@ mod table;
 mod texts;
 mod view;
 mod walk;
+mod weight;
 
 pub use candidate::Candidate;
 pub use example::Example;

@@ -7,13 +7,13 @@ ghost use Rattle.candidates.specs.RowTable.{most_rows};
 ghost use Rattle.candidates.specs.Viewed.{the_view};
 
 use crate::candidate::Candidate;
-use crate::guide::{COLUMN, GUIDE};
+use crate::memory::{COLUMN, GUIDE, POSITIONS};
 use crate::problem::Problem;
 
-// A state is how far each wanted text has been made: one number for each of up to eight examples, and one more.
 // Where a candidate leads, and what it weighs.
 #[derive(Clone, Copy)]
 pub struct Move {
+    // How far each wanted text has been made: one number for each of up to eight examples, and one more.
     pub state: [u64; 9],
     pub weight: u64,
 }
@@ -101,7 +101,10 @@ impl<'a> Problem<'a> {
         ensures value { result ≡ greatest (the_view self.entry) parts (the_view self.entry).examples state.now }
         ensures bound { result < 4294967296 }
     {
-        (0..self.examples).fold(0, |most, e| most.max(self.guide_of(e, state[e], parts)))
+        (0..self.examples)
+            .map(|e| self.guide_of(e, state[e], parts))
+            .max()
+            .unwrap_or(0)
     }
 
     // What one example needs.
@@ -111,7 +114,7 @@ impl<'a> Problem<'a> {
         ensures value { result ≡ guide_in (the_view self.entry) parts e at }
         ensures bound { result < 4294967296 }
     {
-        if at <= 64 {
+        if (at as usize) < POSITIONS {
             self.guide[GUIDE * e + COLUMN * at as usize + parts] % (1 << 32)
         } else {
             0

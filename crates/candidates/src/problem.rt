@@ -3,18 +3,6 @@ ghost use Rattle.std.specs.Prelude.{◌≡◌, ◌≤◌, length};
 
 use crate::rows::Rows;
 
-// Where the texts, the guide and the rows begin in the numbers of a problem, and where they end.
-pub(crate) const TEXTS_AT: usize = 16;
-
-pub(crate) const GUIDE_AT: usize = 1186;
-
-pub(crate) const TABLE_AT: usize = 5866;
-
-pub(crate) const SIZE: usize = 109866;
-
-// As many examples as there can be.
-pub(crate) const MOST_EXAMPLES: usize = 8;
-
 // A view of the numbers of a problem.
 #[derive(Clone, Copy)]
 pub struct Problem<'a> {

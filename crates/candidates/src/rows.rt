@@ -1,16 +1,8 @@
 // The rows of places, read from the numbers that they lie in.
-ghost use Rattle.std.specs.Prelude.{◌≡◌, ◌+◌, ◌<◌, ◌≤◌, [], ◌∷◌, length};
-ghost use Rattle.candidates.specs.RowTable.{row_number, table_size, most_rows};
+ghost use Rattle.std.specs.Prelude.{◌≡◌, ◌+◌, ◌<◌, ◌≤◌, length};
+ghost use Rattle.candidates.specs.RowTable.{row_number, place_says, table_size, most_rows};
 
-// A row has 16 numbers: five that say its place, what that costs, where it lies in each of eight given texts and in the asked one, and 0.
-const ROW: usize = 16;
-
-const COST: usize = 5;
-
-const FIRST_POSITION: usize = 6;
-
-// As many rows as there can be.
-pub(crate) const MOST_ROWS: usize = 6500;
+use crate::memory::{COST_AT, POSITIONS_AT, ROW};
 
 #[derive(Clone, Copy)]
 pub(crate) struct Rows<'a> {
@@ -24,9 +16,7 @@ impl<'a> Rows<'a> {
     // The numbers that say the place of a row.
     pub fn place(self, row: usize) -> [u64; 5]
         requires { row < most_rows }
-        ensures { result
-            ≡ row_number self.entry.numbers.now row 0 ∷ row_number self.entry.numbers.now row 1 ∷ row_number self.entry.numbers.now row 2
-            ∷ row_number self.entry.numbers.now row 3 ∷ row_number self.entry.numbers.now row 4 ∷ [] }
+        ensures { result ≡ place_says self.entry.numbers.now row }
     {
         let from = ROW * row;
         [
@@ -43,7 +33,7 @@ impl<'a> Rows<'a> {
         requires { row < most_rows }
         ensures { result ≡ row_number self.entry.numbers.now row 5 }
     {
-        self.numbers[ROW * row + COST]
+        self.numbers[ROW * row + COST_AT]
     }
 
     // Where a row lies in given text e.
@@ -52,6 +42,6 @@ impl<'a> Rows<'a> {
         requires one_of_eight { e < 8 }
         ensures { result ≡ row_number self.entry.numbers.now row (6 + e) }
     {
-        self.numbers[ROW * row + (FIRST_POSITION + e)]
+        self.numbers[ROW * row + (POSITIONS_AT + e)]
     }
 }

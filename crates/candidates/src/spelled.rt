@@ -1,4 +1,4 @@
-// A candidate is spelled into lent bytes, by the numbers that lie in memory.
+// A candidate is spelled into lent bytes, by the numbers that lie in memory. Crate `rules` spells places; these numbers need not say one.
 ghost use Rattle.std.specs.Prelude.{◌≡◌, ◌+◌, ◌<◌, ◌≤◌, length};
 ghost use Rattle.rules.specs.Answers.{written};
 ghost use Rattle.candidates.specs.RowTable.{most_rows};

@@ -3,17 +3,12 @@ ghost use Rattle.std.specs.Prelude.{◌≡◌, ◌+◌, ◌<◌, ◌≤◌, min,
 ghost use Rattle.candidates.specs.Problem.{view_of, given_in, wanted_in};
 ghost use Rattle.candidates.specs.Viewed.{the_view};
 
-use crate::problem::{GUIDE_AT, MOST_EXAMPLES, Problem, SIZE, TABLE_AT, TEXTS_AT};
-use crate::rows::{MOST_ROWS, Rows};
-
-// The numbers of an example: how long its given text is, and its wanted one, then room for the texts.
-const EXAMPLE: usize = 130;
-
-const GIVEN: usize = 2;
-
-const WANTED: usize = 66;
-
-const TEXT: usize = 64;
+use crate::memory::{
+    EXAMPLE, GIVEN_AT, GUIDES_AT, MOST_BYTES, MOST_EXAMPLES, MOST_ROWS, PROBLEM, ROWS_AT, TEXTS_AT,
+    WANTED_AT,
+};
+use crate::problem::Problem;
+use crate::rows::Rows;
 
 impl<'a> Problem<'a> {
     // The numbers that a problem was laid down in, as a problem.
@@ -24,11 +19,11 @@ impl<'a> Problem<'a> {
         Problem {
             examples: (numbers[0] as usize).min(MOST_EXAMPLES),
             rows: Rows {
-                numbers: &numbers[TABLE_AT..SIZE],
+                numbers: &numbers[ROWS_AT..PROBLEM],
                 count: (numbers[1] as usize).min(MOST_ROWS),
             },
-            texts: &numbers[TEXTS_AT..GUIDE_AT],
-            guide: &numbers[GUIDE_AT..TABLE_AT],
+            texts: &numbers[TEXTS_AT..GUIDES_AT],
+            guide: &numbers[GUIDES_AT..ROWS_AT],
         }
     }
 
@@ -39,7 +34,7 @@ impl<'a> Problem<'a> {
         ensures value { result.now ≡ take (min (slice_index self.entry.texts.now long) 64) (drop from self.entry.texts.now) }
         ensures bound { length result.now ≤ 64 }
     {
-        let length = (self.texts[long] as usize).min(TEXT);
+        let length = (self.texts[long] as usize).min(MOST_BYTES);
         &self.texts[from..from + length]
     }
 
@@ -48,7 +43,7 @@ impl<'a> Problem<'a> {
         requires { e < 9 }
         ensures { result.now ≡ given_in (the_view self.entry) e }
     {
-        self.text(EXAMPLE * e, EXAMPLE * e + GIVEN)
+        self.text(EXAMPLE * e, EXAMPLE * e + GIVEN_AT)
     }
 
     // The wanted text of an example.
@@ -57,6 +52,6 @@ impl<'a> Problem<'a> {
         ensures value { result.now ≡ wanted_in (the_view self.entry) e }
         ensures bound { length result.now ≤ 64 }
     {
-        self.text(EXAMPLE * e + 1, EXAMPLE * e + WANTED)
+        self.text(EXAMPLE * e + 1, EXAMPLE * e + WANTED_AT)
     }
 }

@@ -1,5 +1,5 @@
 -- The loop's steps are those of the lemmas.
-use Rattle.std.proofs.Common.{get_or, ap, ◌∙◌, arith, length-take}
+use Rattle.std.proofs.Common.{min, get_or, ap, ◌∙◌, arith, length-take}
 use Rattle.std.proofs.lemmas.List.{get_or-take}
 use Rattle.candidates.specs.Weights.{smaller}
 use Rattle.candidates.specs.Guide.{cut_weight}
@@ -35,7 +35,7 @@ loop-d-preserved c =
     let within = alike_within c.args.given.now c.args.wanted.now in
     along_goes_on c.args.from c.args.costs.now c.args.given.now c.args.wanted.now c.args.room.now c.loop-d.d c.loop-d.room
     c.min.result (omega arith) (omega arith) (omega arith) (omega arith) (alike_below c.args.given.now c.args.wanted.now c.loop-d.d (omega arith))
-    (c.min.ensures ∙ min_smaller _ _ ∙ ap (λ n. smaller (get_or c.loop-d.room c.loop-d.d 0) (cut_weight c.args.from n)) cost) c.loop-d.invariant
+    (c.min.ensures ∙ ap (min (get_or c.loop-d.room c.loop-d.d 0)) c.cut_weight.ensures ∙ min_smaller _ _ ∙ ap (λ n. smaller (get_or c.loop-d.room c.loop-d.d 0) (cut_weight c.args.from n)) cost) c.loop-d.invariant
 
 pub returns : goal.returns
 returns c =

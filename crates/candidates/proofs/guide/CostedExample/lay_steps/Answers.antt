@@ -9,7 +9,7 @@ pub loop-d-preserved : goal.loop-d-preserved
 loop-d-preserved c =
     below_more _ _
     (λ k h. let ne : k ≢ c.loop-d.d = omega arith in rw get_or-set_other (c.loop-d.invariant k h))
-    (let lt : c.loop-d.d < length c.loop-d.room = omega arith in rw get_or-set_same)
+    (let lt : c.loop-d.d < length c.loop-d.room = omega arith in rw get_or-set_same c.literal_weight.ensures)
 
 pub loop-x-init : goal.loop-x-init
 loop-x-init c =
