@@ -1,9 +1,8 @@
 -- A look at a candidate says what its definition says; what is gone through of the examples counts as the definitions do.
-use Rattle.std.proofs.Common.{◌≡◌, ℕ, zero, suc, ◌+◌, ◌<◌, max, Bool, true, false, eqb, List, [], ◌∷◌, ◌++◌, length, map, get_or, Some, None, Option, refl, ap, ap₂, ◌∙◌, arith}
-use Rattle.std.specs.List.{range_with_len, list_all, fold, reduce}
-use Rattle.std.specs.Option.{unwrap_or, option_map}
+use Rattle.std.proofs.Common.{◌≡◌, ℕ, zero, suc, ◌+◌, ◌<◌, max, Bool, true, false, eqb, List, [], ◌∷◌, ◌++◌, length, get_or, Some, None, Option, refl, ap, ap₂, ◌∙◌, arith}
+use Rattle.std.specs.List.{range_with_len, list_all, fold}
 use Rattle.std.proofs.lemmas.Bool.Decides.{nat_tests}
-use Rattle.std.proofs.lemmas.List.Folds.{list_all-append, fold-map}
+use Rattle.std.proofs.lemmas.List.Folds.{list_all-append}
 use Rattle.std.proofs.lemmas.List.Sums.{fold-append}
 use Rattle.rules.specs.Lists.{pick}
 use Rattle.rules.specs.Rules.{Made}
@@ -37,14 +36,6 @@ range_past : (a n : ℕ) → range_with_len a (suc n) ≡ range_with_len a n ++ 
 range_past a zero = ap (λ k. k ∷ []) (omega arith)
 range_past a (suc n) = ap (λ l. a ∷ l) (range_past (a + 1) n ∙ ap (λ k. range_with_len (a + 1) n ++ k ∷ []) (omega arith))
 
-kept : (r : Option ℕ) → unwrap_or r 0 ≡ unwrap_or (option_map (λ x. x) r) 0
-kept None = refl
-kept (Some x) = refl
-
-reduced : (h : ℕ → ℕ) (xs : List ℕ) → unwrap_or (reduce max (map h xs)) 0 ≡ fold (λ a x. max a (h x)) 0 xs
-reduced h [] = refl
-reduced h (x ∷ xs) = fold-map max h (h x) xs ∙ ap (λ a. fold (λ b y. max b (h y)) a xs) (omega arith)
-
 guide_small : (v : View) (k e j : ℕ) → guide_in v k e j < 4294967296
 guide_small v k e j = grind (arith, nat_tests)
 
@@ -59,15 +50,12 @@ module _ (v : View) (s : List ℕ) where
       ap (list_all test) (range_past 0 n) ∙ list_all-append test (range_with_len 0 n) ((0 + n) ∷ []) ∙ grind arith
 
   -- the most that one of them needs
-  greatest_all : (k n : ℕ) → fold (λ most e. max most (guide_in v k e (get_or s e 0))) 0 (range_with_len 0 n) ≡ greatest v k n s
+  pub greatest_all : (k n : ℕ) → fold (λ most e. max most (guide_in v k e (get_or s e 0))) 0 (range_with_len 0 n) ≡ greatest v k n s
   unfolding greatest
   greatest_all k zero = refl
   greatest_all k (suc n) =
       let f : ℕ → ℕ → ℕ = λ most e. max most (guide_in v k e (get_or s e 0)) in
       ap (fold f 0) (range_past 0 n) ∙ fold-append f 0 (range_with_len 0 n) ((0 + n) ∷ []) ∙ ap₂ f (greatest_all k n) (omega arith)
-
-  pub most_is : (k n : ℕ) (r : Option ℕ) → option_map (λ x. x) r ≡ reduce max (map (λ e. guide_in v k e (get_or s e 0)) (range_with_len 0 n)) → unwrap_or r 0 ≡ greatest v k n s
-  most_is k n r e = kept r ∙ ap (λ o. unwrap_or o 0) e ∙ reduced (λ e. guide_in v k e (get_or s e 0)) (range_with_len 0 n) ∙ greatest_all k n
 
   pub greatest_small : (k n : ℕ) → greatest v k n s < 4294967296
   unfolding greatest

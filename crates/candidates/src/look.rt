@@ -101,10 +101,8 @@ impl<'a> Problem<'a> {
         ensures value { result ≡ greatest (the_view self.entry) parts (the_view self.entry).examples state.now }
         ensures bound { result < 4294967296 }
     {
-        (0..self.examples)
-            .map(|e| self.guide_of(e, state[e], parts))
-            .max()
-            .unwrap_or(0)
+        // A fold: the search spends its time here, and `max` of what each needs was slower.
+        (0..self.examples).fold(0, |most, e| most.max(self.guide_of(e, state[e], parts)))
     }
 
     // What one example needs.
