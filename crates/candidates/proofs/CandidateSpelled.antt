@@ -1,9 +1,9 @@
 -- How the candidate of a number is spelled, by what it is.
-use Rattle.std.proofs.Common.{◌≡◌, ℕ, ◌+◌, ◌-◌, ◌*◌, ◌/◌, ◌%◌, ◌<◌, ◌≤◌, List, [], length, get_or, take, drop, sym, refl, ap, ◌∙◌, ap₂, arith}
+use Rattle.std.proofs.Common.{◌≡◌, ℕ, zero, suc, ◌+◌, ◌-◌, ◌*◌, ◌/◌, ◌%◌, ◌<◌, ◌≤◌, List, [], ◌∷◌, length, get_or, take, drop, sym, refl, ap, ◌∙◌, ap₂, arith}
 use Rattle.std.proofs.lemmas.Bool.{lt-ltb, le-ltb}
 use Rattle.rules.specs.Answers.{written}
 use Rattle.candidates.specs.Problem.{View, wanted_in, literals_in}
-use Rattle.candidates.specs.Spelled.{literal_spelled, cut_spelled, candidate_spelled}
+use Rattle.candidates.specs.Spelled.{as_byte, numbers_spelled, literal_spelled, cut_spelled, candidate_spelled}
 
 -- what is written, and where it ends, said of the same bytes by another name
 pub written_as : (out after bs cs : List ℕ) (at end : ℕ) → end ≡ at + length bs → after ≡ written out at bs → bs ≡ cs → (end ≡ at + length cs) × (after ≡ written out at cs)
@@ -19,22 +19,21 @@ module _ (v : View) (s : List ℕ) (i : ℕ) where
   unfolding candidate_spelled
   spelled_cut h k = rw (le-ltb i (literals_in v s) h, lt-ltb (i - literals_in v s) (v.rows * v.rows) k) refl
 
-  spelled_none : literals_in v s ≤ i → v.rows * v.rows ≤ i - literals_in v s → candidate_spelled v s i ≡ []
+  pub spelled_none : literals_in v s + v.rows * v.rows ≤ i → candidate_spelled v s i ≡ []
   unfolding candidate_spelled
-  spelled_none h k = rw (le-ltb i (literals_in v s) h, le-ltb (i - literals_in v s) (v.rows * v.rows) k) refl
+  spelled_none h = rw (le-ltb i (literals_in v s) (omega arith), le-ltb (i - literals_in v s) (v.rows * v.rows) (omega arith)) refl
 
-  -- the same for so many literals
-  module _ (w : List ℕ) (n : ℕ) (is : w ≡ wanted_in v 0) (many : n ≡ length w - get_or s 0 0) where
-    counted : n ≡ literals_in v s
-    counted = many ∙ ap (λ l. length l - get_or s 0 0) is
+  -- the same of a text that is the first wanted one, and of a number that is how many literals there are
+  pub literal_is : (w : List ℕ) (k : ℕ) → w ≡ wanted_in v 0 → k ≡ i + 1 → i < literals_in v s → literal_spelled (take k (drop (get_or s 0 0) w)) ≡ candidate_spelled v s i
+  literal_is w k is e h = ap₂ (λ m l. literal_spelled (take m (drop (get_or s 0 0) l))) e is ∙ sym (spelled_literal h)
 
-    pub literal_is : (k : ℕ) → k ≡ i + 1 → i < n → literal_spelled (take k (drop (get_or s 0 0) w)) ≡ candidate_spelled v s i
-    literal_is k e h = ap₂ (λ m l. literal_spelled (take m (drop (get_or s 0 0) l))) e is ∙ sym (spelled_literal (let c = counted in omega arith))
+  pub cut_is : (n : ℕ) → n ≡ literals_in v s → n ≤ i → i - n < v.rows * v.rows → cut_spelled v ((i - n) / v.rows) ((i - n) % v.rows) ≡ candidate_spelled v s i
+  cut_is n e h k =
+      ap (λ m. cut_spelled v ((i - m) / v.rows) ((i - m) % v.rows)) e ∙ sym (spelled_cut (omega arith) (let e : i - n ≡ i - literals_in v s = omega arith in omega arith))
 
-    pub cut_is : n ≤ i → i - n < v.rows * v.rows → cut_spelled v ((i - n) / v.rows) ((i - n) % v.rows) ≡ candidate_spelled v s i
-    cut_is h k =
-        let c = counted in
-        ap (λ m. cut_spelled v ((i - m) / v.rows) ((i - m) % v.rows)) c ∙ sym (spelled_cut (omega arith) (let e : i - n ≡ i - literals_in v s = omega arith in omega arith))
-
-    pub none_is : n ≤ i → v.rows * v.rows ≤ i - n → candidate_spelled v s i ≡ []
-    none_is h k = let c = counted in spelled_none (omega arith) (let e : i - n ≡ i - literals_in v s = omega arith in omega arith)
+-- the place of a row, by the first of its numbers
+pub end_spelled : (tag l r n b : ℕ) → tag < 2 → numbers_spelled tag l r n b ≡ as_byte tag ∷ as_byte n ∷ []
+unfolding numbers_spelled
+end_spelled zero l r n b h = refl
+end_spelled (suc zero) l r n b h = refl
+end_spelled (suc (suc tag)) l r n b h = absurd (omega arith)

@@ -144,12 +144,11 @@ module _ (cs gs ws was : List ℕ) where
         ∙ take_at (together (columns cs gs (drop (suc j) ws))) (drop (9 * suc (length ws)) was) (9 * length ws + 9 - (9 * j + 9)) (omega arith)
 
     -- as much as is wanted from j on, and nothing above far
-    pub laid_enough : length (take (9 * length ws + 9 - (9 * j + 9)) (drop (9 * j + 9) S)) ≡ 9 * length (take (length ws - j) (drop j ws))
+    pub laid_enough : length (take (9 * length ws + 9 - (9 * j + 9)) (drop (9 * j + 9) S)) ≡ 9 * length (drop j ws)
     laid_enough =
         let n = length_columns_together cs gs (drop (suc j) ws) in
         let m = length-drop (suc j) ws in
         let r = ap length laid_read in
-        let t = length-take (length ws - j) (drop j ws) in
         let d = length-drop j ws in
         omega arith
 

@@ -11,7 +11,7 @@ use Rattle.candidates.proofs.ExamplesRead.{given_read, wanted_read}
 use Rattle.candidates.proofs.GuideFalls.{length_columns}
 
 -- as a write to out[585 * e..585 * e + 585] leaves it
-pub guide_put : (xs ys : List ℕ) (cols : List (List ℕ)) (e : ℕ) → ys ≡ laid_columns cols (take (585 * e + 585 - 585 * e) (drop (585 * e) xs)) →
+guide_put : (xs ys : List ℕ) (cols : List (List ℕ)) (e : ℕ) → ys ≡ laid_columns cols (take (585 * e + 585 - 585 * e) (drop (585 * e) xs)) →
     take (585 * e) xs ++ (ys ++ drop (585 * e + 585 - 585 * e) (drop (585 * e) xs)) ≡ with_guide xs e cols
 guide_put xs ys cols e is =
     let size : 585 * e + 585 - 585 * e ≡ 585 = omega arith in
@@ -89,12 +89,13 @@ module _ (css : List (List ℕ)) (es : List Example) where
 
 -- as a loop lays down the guide of the example that it has come to
 pub guides_goes_on :
-    (css : List (List ℕ)) (xs : List declared.Example) (ns S S' : List ℕ) (e : ℕ) (d : declared.Example) → e < length xs →
-    S' ≡ with_guide S e (columns (get_or css e []) (get_or xs e d).given.now (get_or xs e d).wanted.now) → S ≡ guides_laid css (the_examples xs) e ns →
-    S' ≡ guides_laid css (the_examples xs) (e + 1) ns
+    (css : List (List ℕ)) (xs : List declared.Example) (ns S ys : List ℕ) (e : ℕ) (d : declared.Example) → e < length xs →
+    ys ≡ laid_columns (columns (get_or css e []) (get_or xs e d).given.now (get_or xs e d).wanted.now) (take (585 * e + 585 - 585 * e) (drop (585 * e) S)) → S ≡ guides_laid css (the_examples xs) e ns →
+    take (585 * e) S ++ (ys ++ drop (585 * e + 585 - 585 * e) (drop (585 * e) S)) ≡ guides_laid css (the_examples xs) (e + 1) ns
 unfolding guides_laid
-guides_goes_on css xs ns S S' e d h is so =
-    is ∙ ap (λ l. with_guide l e (columns (get_or css e []) (get_or xs e d).given.now (get_or xs e d).wanted.now)) so
+guides_goes_on css xs ns S ys e d h is so =
+    guide_put S ys (columns (get_or css e []) (get_or xs e d).given.now (get_or xs e d).wanted.now) e is
+    ∙ ap (λ l. with_guide l e (columns (get_or css e []) (get_or xs e d).given.now (get_or xs e d).wanted.now)) so
     ∙ ap (λ l. with_guide (guides_laid css (the_examples xs) e ns) e (columns (get_or css e []) l (get_or xs e d).wanted.now)) (sym (given_read xs e d h))
     ∙ ap (λ l. with_guide (guides_laid css (the_examples xs) e ns) e (columns (get_or css e []) (given_of (the_examples xs) e) l)) (sym (wanted_read xs e d h))
     ∙ ap (λ m. guides_laid css (the_examples xs) m ns) (sym (add-one e))

@@ -1,11 +1,14 @@
 -- The least costs are no more than what a row costs that lies at their position, and no more than what they were; there are as many as there were.
-use Rattle.std.proofs.Common.{◌≡◌, ℕ, zero, suc, ◌+◌, ◌<◌, ◌≤◌, ◌⊎◌, List, [], length, get_or, replicate, sym, refl, ap, ◌∙◌, subst, inl, inr, add-one, arith, length-set, get_or-set_other, get_or-set_same}
+use Rattle.std.proofs.Common.{◌≡◌, ℕ, zero, suc, ◌+◌, ◌<◌, ◌≤◌, min, ◌⊎◌, List, [], length, get_or, replicate, sym, refl, ap, ◌∙◌, subst, inl, inr, add-one, arith, length-set, get_or-set_other, get_or-set_same}
 use Rattle.std.proofs.lemmas.List.{set_past}
 use Rattle.std.proofs.lemmas.Bool.{cases_eq, cases_lt}
 use Rattle.std.proofs.lemmas.Bool.Decides.{nat_tests}
 use Rattle.candidates.specs.RowTable.{row_number}
 use Rattle.candidates.specs.Weights.{smaller}
 use Rattle.candidates.specs.Guide.{lowered, least_costs, all_costs, NoneAbove}
+
+pub min_smaller : (a b : ℕ) → min a b ≡ smaller a b
+min_smaller a b = grind (arith, nat_tests)
 
 pub length_least_costs : (t : List ℕ) (e n : ℕ) (cs : List ℕ) → length (least_costs t e n cs) ≡ length cs
 unfolding least_costs

@@ -1,6 +1,9 @@
--- A look at a candidate says what its definition says; the loops over the examples count as the definitions do.
-use Rattle.std.proofs.Common.{◌≡◌, ℕ, zero, suc, ◌+◌, ◌<◌, max, Bool, true, false, List, length, get_or, Some, None, Option, sym, refl, ap, ◌∙◌, subst, ap₂, ⊎_elim, add-one, arith}
-use Rattle.std.proofs.lemmas.Bool.{and_from, cases_eq, eq-eqb, ne_eqb}
+-- A look at a candidate says what its definition says; what is gone through of the examples counts as the definitions do.
+use Rattle.std.proofs.Common.{◌≡◌, ℕ, zero, suc, ◌+◌, ◌<◌, max, Bool, true, false, eqb, List, [], ◌∷◌, ◌++◌, length, get_or, Some, None, Option, refl, ap, ap₂, ◌∙◌, arith}
+use Rattle.std.specs.List.{range_with_len, list_all, fold}
+use Rattle.std.proofs.lemmas.Bool.Decides.{nat_tests}
+use Rattle.std.proofs.lemmas.List.Folds.{list_all-append}
+use Rattle.std.proofs.lemmas.List.Sums.{fold-append}
 use Rattle.rules.specs.Lists.{pick}
 use Rattle.rules.specs.Rules.{Made}
 use Rattle.candidates.specs.Problem.{View, wanted_in, all_go, all_moved, all_at_end, candidate_piece, candidate_weight, guide_in, greatest}
@@ -29,28 +32,32 @@ module _ (v : View) (s : List ℕ) (i : ℕ) (piece : ℕ → Made) (same : (e :
   look_stops e =
       no_move (all_go v (candidate_piece v s i) v.examples s) (all_moved (candidate_piece v s i) v.examples s) (candidate_weight v s i) (e ∙ ap (λ p. moved_by v p s) as_one)
 
+range_past : (a n : ℕ) → range_with_len a (suc n) ≡ range_with_len a n ++ ((a + n) ∷ [])
+range_past a zero = ap (λ k. k ∷ []) (omega arith)
+range_past a (suc n) = ap (λ l. a ∷ l) (range_past (a + 1) n ∙ ap (λ k. range_with_len (a + 1) n ++ k ∷ []) (omega arith))
+
+guide_small : (v : View) (k e j : ℕ) → guide_in v k e j < 4294967296
+guide_small v k e j = grind (arith, nat_tests)
+
 module _ (v : View) (s : List ℕ) where
-  pub end_none : all_at_end v 0 s ≡ true
+  -- all of the first n examples are at their end
+  pub ends_all : (n : ℕ) → list_all (λ e. eqb (get_or s e 0) (length (wanted_in v e))) (range_with_len 0 n) ≡ all_at_end v n s
   unfolding all_at_end
-  end_none = refl
+  ends_all zero = refl
+  ends_all (suc n) =
+      let test : ℕ → Bool = λ e. eqb (get_or s e 0) (length (wanted_in v e)) in
+      let ih = ends_all n in
+      ap (list_all test) (range_past 0 n) ∙ list_all-append test (range_with_len 0 n) ((0 + n) ∷ []) ∙ grind arith
 
-  pub end_more : (m : ℕ) → all_at_end v m s ≡ true → get_or s m 0 ≡ length (wanted_in v m) → all_at_end v (m + 1) s ≡ true
-  unfolding all_at_end
-  end_more m g e = ap (λ k. all_at_end v k s) (add-one m) ∙ and_from _ _ g (eq-eqb _ _ e)
-
-  pub end_stops : (m n : ℕ) → m < n → (get_or s m 0 ≡ length (wanted_in v m) → ⊥) → all_at_end v n s ≡ false
-  unfolding all_at_end
-  end_stops m zero h f = absurd (omega arith)
-  end_stops m (suc n) h f =
-      ⊎_elim
-      (λ e. let k = ne_eqb _ _ (subst (λ i. get_or s i 0 ≡ length (wanted_in v i) → ⊥) e f) in grind arith)
-      (λ ne. let k = end_stops m n (omega arith) f in grind arith)
-      (cases_eq m n)
-
-  pub greatest_none : (k : ℕ) → 0 ≡ greatest v k 0 s
+  -- the most that one of them needs
+  pub greatest_all : (k n : ℕ) → fold (λ most e. max most (guide_in v k e (get_or s e 0))) 0 (range_with_len 0 n) ≡ greatest v k n s
   unfolding greatest
-  greatest_none k = refl
+  greatest_all k zero = refl
+  greatest_all k (suc n) =
+      let f : ℕ → ℕ → ℕ = λ most e. max most (guide_in v k e (get_or s e 0)) in
+      ap (fold f 0) (range_past 0 n) ∙ fold-append f 0 (range_with_len 0 n) ((0 + n) ∷ []) ∙ ap₂ f (greatest_all k n) (omega arith)
 
-  pub greatest_more : (k m most g : ℕ) → most ≡ greatest v k m s → g ≡ guide_in v k m (get_or s m 0) → max most g ≡ greatest v k (m + 1) s
+  pub greatest_small : (k n : ℕ) → greatest v k n s < 4294967296
   unfolding greatest
-  greatest_more k m most g e f = ap₂ max e f ∙ ap (λ n. greatest v k n s) (sym (add-one m))
+  greatest_small k zero = omega arith
+  greatest_small k (suc n) = let ih = greatest_small k n in let here = guide_small v k n (get_or s n 0) in omega arith

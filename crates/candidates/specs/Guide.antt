@@ -63,14 +63,15 @@ least_costs t e zero cs = cs
 least_costs t e (suc n) cs = lowered (least_costs t e n cs) (row_number t n (6 + e)) (row_number t n 5)
 
 -- IN MEMORY
--- 65 columns of 9 numbers for an example
-abbrev pub guide_size : ℕ
-guide_size = 585
-
 -- the least of a step and what is needed behind it with k parts, where the columns lie one behind the other in m
 unfoldable pub least_in : ℕ → List ℕ → List ℕ → ℕ
 least_in k [] m = far
 least_in k (n ∷ ns) m = smaller (n + slice_index m k) (least_in k ns (drop 9 m))
+
+-- what is needed with k parts: with none, no rule will do
+abbrev pub needed_with : List ℕ → List ℕ → ℕ → ℕ
+needed_with ns m zero = far
+needed_with ns m (suc k) = least_in k ns m
 
 -- the column before those in m
 abbrev pub column_in : List ℕ → List ℕ → List ℕ

@@ -24,9 +24,6 @@ asked_position (t ∷ ts) p = position t p
 abbrev pub row_of : List Example → List (List ℕ) → Place → List ℕ
 row_of es asked p = place_numbers p ++ (place_cost p ∷ (positions_in es 8 p ++ (asked_position asked p ∷ 0 ∷ [])))
 
-abbrev pub row_size : ℕ
-row_size = 16
-
 -- as many rows as there can be, and their numbers
 abbrev pub most_rows : ℕ
 most_rows = 6500
@@ -99,6 +96,10 @@ table_for es asked ns = all_tried es asked (record { numbers = ns; rows = 0 }) (
 -- the place that five numbers say
 unfoldable pub place_from : ℕ → ℕ → ℕ → ℕ → ℕ → Place
 place_from tag l r n b = pick (tag == 0) (from_first n) (pick (tag == 1) (from_last n) (nth_of l r n (b == 1)))
+
+-- the five numbers that say the place of row i
+abbrev pub place_says : List ℕ → ℕ → List ℕ
+place_says t i = row_number t i 0 ∷ row_number t i 1 ∷ row_number t i 2 ∷ row_number t i 3 ∷ row_number t i 4 ∷ []
 
 abbrev pub place_in : List ℕ → ℕ → Place
 place_in t i = place_from (row_number t i 0) (row_number t i 1) (row_number t i 2) (row_number t i 3) (row_number t i 4)

@@ -4,6 +4,8 @@ use Rattle.rules.specs.Lists.{pick, each}
 use Rattle.rules.specs.Order.{flag}
 use Rattle.candidates.specs.Problem.{View, wanted_in, literals_in}
 use Rattle.candidates.specs.RowTable.{row_number}
+use Rattle.candidates.specs.declared.candidate.Candidate.{Candidate}
+use Rattle.candidates.specs.declared.candidate.Candidate.TheVariants.{Literal, Cut}
 
 -- Any number is taken as a byte, so that there is a spelling whatever lies in memory.
 abbrev pub as_byte : ℕ → ℕ
@@ -25,6 +27,11 @@ literal_spelled b = 0 ∷ length b ∷ each as_byte b
 -- the cut by rows i and k
 abbrev pub cut_spelled : View → ℕ → ℕ → List ℕ
 cut_spelled v i k = 1 ∷ row_spelled v.table i ++ row_spelled v.table k
+
+-- a candidate
+abbrev pub spelled_as : View → Candidate → List ℕ
+spelled_as v (Literal b) = literal_spelled b.now
+spelled_as v (Cut from to) = cut_spelled v from to
 
 -- candidate i; no bytes where there is none of this number
 unfoldable pub candidate_spelled : View → List ℕ → ℕ → List ℕ

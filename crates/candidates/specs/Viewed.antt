@@ -3,4 +3,4 @@ use Rattle.candidates.specs.Problem.{View}
 use Rattle.candidates.specs.declared.problem.Problem.{Problem}
 
 abbrev pub the_view : Problem → View
-the_view p = record { examples = p.examples; rows = p.rows; texts = p.texts.now; guide = p.guide.now; table = p.table.now }
+the_view p = record { examples = p.examples; rows = p.rows.count; texts = p.texts.now; guide = p.guide.now; table = p.rows.numbers.now }

@@ -2,10 +2,12 @@
 ghost use Rattle.std.specs.Prelude.{◌≡◌, ℕ, ◌*◌, ◌/◌, ◌%◌, ◌<◌, ◌≤◌};
 ghost use Rattle.candidates.specs.Problem.{literals_in, count_in, cut_piece, cut_weighs, candidate_piece, candidate_weight, row_cost};
 ghost use Rattle.candidates.specs.Looked.{pieces, weighs, Within};
+ghost use Rattle.candidates.specs.Spelled.{cut_spelled, spelled_as, candidate_spelled};
 ghost use Rattle.candidates.specs.Viewed.{the_view};
 
 use crate::candidate::Candidate;
 use crate::problem::Problem;
+use crate::weight::{cut_weight, literal_weight};
 
 impl<'a> Problem<'a> {
     // How many literals can go on: as many as bytes of the first wanted text are still to be made.
@@ -20,7 +22,7 @@ impl<'a> Problem<'a> {
     pub fn row_count(self) -> usize
         ensures { result ≡ (the_view self.entry).rows }
     {
-        self.rows
+        self.rows.count
     }
 
     // How many cuts there are.
@@ -28,7 +30,7 @@ impl<'a> Problem<'a> {
         ensures value { result ≡ (the_view self.entry).rows * (the_view self.entry).rows }
         ensures bound { result ≤ 42250000 }
     {
-        self.rows * self.rows
+        self.rows.count * self.rows.count
     }
 
     // How many candidates a state has.
@@ -44,11 +46,12 @@ impl<'a> Problem<'a> {
         requires { number < (the_view self).rows * (the_view self).rows }
         ensures value { (e : ℕ) → pieces (the_view self.entry) result e ≡ cut_piece (the_view self.entry) (number / (the_view self.entry).rows) (number % (the_view self.entry).rows) e }
         ensures weight { weighs (the_view self.entry) result ≡ cut_weighs (the_view self.entry) (number / (the_view self.entry).rows) (number % (the_view self.entry).rows) }
+        ensures spelled { spelled_as (the_view self.entry) result ≡ cut_spelled (the_view self.entry) (number / (the_view self.entry).rows) (number % (the_view self.entry).rows) }
         ensures right { Within result }
     {
         Candidate::Cut {
-            from: number / self.rows,
-            to: number % self.rows,
+            from: number / self.rows.count,
+            to: number % self.rows.count,
         }
     }
 
@@ -57,6 +60,7 @@ impl<'a> Problem<'a> {
         requires { index < count_in (the_view self) state.now }
         ensures value { (e : ℕ) → pieces (the_view self.entry) result e ≡ candidate_piece (the_view self.entry) state.now index e }
         ensures weight { weighs (the_view self.entry) result ≡ candidate_weight (the_view self.entry) state.now index }
+        ensures spelled { spelled_as (the_view self.entry) result ≡ candidate_spelled (the_view self.entry) state.now index }
         ensures right { Within result }
     {
         let literals = self.literals(state);
@@ -74,18 +78,18 @@ impl<'a> Problem<'a> {
         ensures value { result ≡ row_cost (the_view self.entry) row }
         ensures bound { result < 256 }
     {
-        self.table[16 * row + 5] % 256
+        self.rows.cost(row) % 256
     }
 
-    // What a candidate weighs: 16 for each unit of its cost, and 1 for the part.
+    // What a candidate weighs.
     pub fn weight(self, candidate: Candidate<'a>) -> u64
         requires { Within candidate }
         ensures value { result ≡ weighs (the_view self.entry) candidate.entry }
         ensures bound { result < 16384 }
     {
         match candidate {
-            Candidate::Literal(bytes) => 16 * (5 + 4 * bytes.len() as u64) + 1,
-            Candidate::Cut { from, to } => 16 * (7 + self.row_cost(from) + self.row_cost(to)) + 1,
+            Candidate::Literal(bytes) => literal_weight(bytes.len() as u64),
+            Candidate::Cut { from, to } => cut_weight(self.row_cost(from), self.row_cost(to)),
         }
     }
 }

@@ -3,16 +3,17 @@ ghost use Rattle.std.specs.Prelude.{◌≡◌, ◌+◌, ◌<◌, ◌≤◌, true
 ghost use Rattle.rules.specs.Answers.{slice_made};
 ghost use Rattle.candidates.specs.Problem.{given_in, wanted_in, middle_in, piece_goes, count_in, cut_piece, all_at_end, greatest, guide_in};
 ghost use Rattle.candidates.specs.Looked.{looked, next_position, next_by, moved_by, pieces, Within, Light};
+ghost use Rattle.candidates.specs.RowTable.{most_rows};
 ghost use Rattle.candidates.specs.Viewed.{the_view};
 
 use crate::candidate::Candidate;
+use crate::memory::{COLUMN, GUIDE, POSITIONS};
 use crate::problem::Problem;
-use crate::same::is_same;
 
-// A state is how far each wanted text has been made: one number for each of up to eight examples, and one more.
 // Where a candidate leads, and what it weighs.
 #[derive(Clone, Copy)]
 pub struct Move {
+    // How far each wanted text has been made: one number for each of up to eight examples, and one more.
     pub state: [u64; 9],
     pub weight: u64,
 }
@@ -22,37 +23,27 @@ fn next_position(piece: &[u64], wanted: &[u64], at: u64) -> Option<u64>
     requires { length wanted.now ≤ 64 }
     ensures { result ≡ next_position piece.now wanted.now at }
 {
-    let from = at as usize;
-    if from > wanted.len() {
-        return None;
-    }
-    let to = from + piece.len();
-    if to <= wanted.len() && is_same(piece, &wanted[from..to]) {
-        Some(to as u64)
-    } else {
-        None
-    }
+    let rest = wanted.get(at as usize..)?;
+    rest.starts_with(piece).then_some(at + piece.len() as u64)
 }
 
 impl<'a> Problem<'a> {
     // What the cut by two rows makes of an example.
     fn middle(self, from: usize, to: usize, e: usize) -> Option<&'a [u64]>
-        requires { (from < 6500) × ((to < 6500) × (e < 8)) }
+        requires from { from < most_rows }
+        requires to { to < most_rows }
+        requires one_of_eight { e < 8 }
         ensures { slice_made result ≡ cut_piece (the_view self.entry) from to e }
     {
-        let text = self.given(e);
-        let a = self.table[16 * from + (6 + e)] as usize;
-        let b = self.table[16 * to + (6 + e)] as usize;
-        if a <= b && b <= text.len() {
-            Some(&text[a..b])
-        } else {
-            None
-        }
+        let a = self.rows.at(from, e) as usize;
+        let b = self.rows.at(to, e) as usize;
+        self.given(e).get(a..b)
     }
 
     // What a candidate makes of an example.
     fn piece(self, candidate: Candidate<'a>, e: usize) -> Option<&'a [u64]>
-        requires { (Within candidate) × (e < 8) }
+        requires within { Within candidate }
+        requires one_of_eight { e < 8 }
         ensures { slice_made result ≡ pieces (the_view self.entry) candidate.entry e }
     {
         match candidate {
@@ -63,13 +54,12 @@ impl<'a> Problem<'a> {
 
     // Where a wanted text has been made to by a candidate.
     fn next(self, candidate: Candidate<'a>, e: usize, at: u64) -> Option<u64>
-        requires { (Within candidate) × (e < 8) }
+        requires within { Within candidate }
+        requires one_of_eight { e < 8 }
         ensures { result ≡ next_by (pieces (the_view self.entry) candidate.entry e) (wanted_in (the_view self.entry) e) at }
     {
-        match self.piece(candidate, e) {
-            Some(piece) => next_position(piece, self.wanted(e), at),
-            None => None,
-        }
+        let piece = self.piece(candidate, e)?;
+        next_position(piece, self.wanted(e), at)
     }
 
     // Where a candidate leads from a state, if it goes on in every example.
@@ -79,10 +69,7 @@ impl<'a> Problem<'a> {
     {
         let mut next = *state;
         for e in 0..self.examples {
-            match self.next(candidate, e, state[e]) {
-                Some(at) => next[e] = at,
-                None => return None,
-            }
+            next[e] = self.next(candidate, e, state[e])?;
         }
         Some(next)
     }
@@ -94,25 +81,18 @@ impl<'a> Problem<'a> {
         ensures bound { Light result }
     {
         let chosen = self.candidate(state, index);
-        match self.lead(chosen, state) {
-            Some(next) => Some(Move {
-                state: next,
-                weight: self.weight(chosen),
-            }),
-            None => None,
-        }
+        let next = self.lead(chosen, state)?;
+        Some(Move {
+            state: next,
+            weight: self.weight(chosen),
+        })
     }
 
     // Whether every wanted text has been made.
     pub fn at_end(self, state: &[u64; 9]) -> bool
         ensures { result ≡ all_at_end (the_view self.entry) (the_view self.entry).examples state.now }
     {
-        for e in 0..self.examples {
-            if state[e] as usize != self.wanted(e).len() {
-                return false;
-            }
-        }
-        true
+        (0..self.examples).all(|e| state[e] as usize == self.wanted(e).len())
     }
 
     // What is still needed at least, with so many parts at most: the most that one example needs.
@@ -121,21 +101,19 @@ impl<'a> Problem<'a> {
         ensures value { result ≡ greatest (the_view self.entry) parts (the_view self.entry).examples state.now }
         ensures bound { result < 4294967296 }
     {
-        let mut most = 0u64;
-        for e in 0..self.examples {
-            most = most.max(self.guide_of(e, state[e], parts));
-        }
-        most
+        // A fold: the search spends its time here, and `max` of what each needs was slower.
+        (0..self.examples).fold(0, |most, e| most.max(self.guide_of(e, state[e], parts)))
     }
 
     // What one example needs.
     fn guide_of(self, e: usize, at: u64, parts: usize) -> u64
-        requires { (e < 8) × (parts ≤ 8) }
+        requires one_of_eight { e < 8 }
+        requires few { parts ≤ 8 }
         ensures value { result ≡ guide_in (the_view self.entry) parts e at }
         ensures bound { result < 4294967296 }
     {
-        if at <= 64 {
-            self.guide[585 * e + 9 * at as usize + parts] % 4294967296
+        if (at as usize) < POSITIONS {
+            self.guide[GUIDE * e + COLUMN * at as usize + parts] % (1 << 32)
         } else {
             0
         }

@@ -1,9 +1,11 @@
-// A candidate is spelled into lent bytes, by the numbers that lie in memory.
+// A candidate is spelled into lent bytes, by the numbers that lie in memory. Crate `rules` spells places; these numbers need not say one.
 ghost use Rattle.std.specs.Prelude.{◌≡◌, ◌+◌, ◌<◌, ◌≤◌, length};
 ghost use Rattle.rules.specs.Answers.{written};
+ghost use Rattle.candidates.specs.RowTable.{most_rows};
 ghost use Rattle.candidates.specs.Spelled.{as_byte, literal_spelled, row_spelled, cut_spelled, candidate_spelled};
 ghost use Rattle.candidates.specs.Viewed.{the_view};
 
+use crate::candidate::Candidate;
 use crate::problem::Problem;
 use rules::put;
 
@@ -32,38 +34,30 @@ fn put_literal(literal: &[u64], out: &mut [u8], at: usize) -> usize
 impl<'a> Problem<'a> {
     // Spells the place of a row from `at` on, and says where its spelling ends.
     fn put_place(self, row: usize, out: &mut [u8], at: usize) -> usize
-        requires row { row < 6500 }
+        requires row { row < most_rows }
         requires room { at + 7 ≤ length out.old }
         ensures value { result ≡ at + length (row_spelled (the_view self.entry).table row) }
         ensures bound { result ≤ at + 7 }
         ensures after { out.new ≡ written out.old at (row_spelled (the_view self.entry).table row) }
     {
-        let from = 16 * row;
-        let n = as_byte(self.table[from + 3]);
-        match self.table[from] {
-            0 => {
-                put(out, at, &[0, n]);
-                at + 2
-            }
-            1 => {
-                put(out, at, &[1, n]);
+        let [tag, left, right, n, back] = self.rows.place(row);
+        match tag {
+            0 | 1 => {
+                put(out, at, &[as_byte(tag), as_byte(n)]);
                 at + 2
             }
             _ => {
-                let l = self.table[from + 1];
-                let r = self.table[from + 2];
-                let back = self.table[from + 4] == 1;
                 put(
                     out,
                     at,
                     &[
                         2,
-                        as_byte(l / 256),
-                        as_byte(l),
-                        as_byte(r / 256),
-                        as_byte(r),
-                        n,
-                        back as u8,
+                        as_byte(left / 256),
+                        as_byte(left),
+                        as_byte(right / 256),
+                        as_byte(right),
+                        as_byte(n),
+                        (back == 1) as u8,
                     ],
                 );
                 at + 7
@@ -73,7 +67,8 @@ impl<'a> Problem<'a> {
 
     // Spells the cut by two rows from `at` on, and says where its spelling ends.
     fn put_cut(self, from: usize, to: usize, out: &mut [u8], at: usize) -> usize
-        requires rows { (from < 6500) × (to < 6500) }
+        requires from { from < most_rows }
+        requires to { to < most_rows }
         requires room { at + 66 ≤ length out.old }
         ensures value { result ≡ at + length (cut_spelled (the_view self.entry) from to) }
         ensures bound { result ≤ at + 66 }
@@ -91,17 +86,12 @@ impl<'a> Problem<'a> {
         ensures bound { result ≤ at + 66 }
         ensures after { out.new ≡ written out.old at (candidate_spelled (the_view self.entry) state.now index) }
     {
-        let wanted = self.wanted(0);
-        let from = state[0] as usize;
-        let literals = wanted.len().saturating_sub(from);
-        if index < literals {
-            return put_literal(&wanted[from..from + (index + 1)], out, at);
+        if index >= self.count(state) {
+            return at;
         }
-        let number = index - literals;
-        if number < self.rows * self.rows {
-            self.put_cut(number / self.rows, number % self.rows, out, at)
-        } else {
-            at
+        match self.candidate(state, index) {
+            Candidate::Literal(bytes) => put_literal(bytes, out, at),
+            Candidate::Cut { from, to } => self.put_cut(from, to, out, at),
         }
     }
 }

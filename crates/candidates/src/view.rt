@@ -1,9 +1,14 @@
 // What a problem holds, read from its numbers.
-ghost use Rattle.std.specs.Prelude.{◌≡◌, ◌<◌, ◌≤◌, true, false, length};
+ghost use Rattle.std.specs.Prelude.{◌≡◌, ◌+◌, ◌<◌, ◌≤◌, min, length, take, drop, slice_index};
 ghost use Rattle.candidates.specs.Problem.{view_of, given_in, wanted_in};
 ghost use Rattle.candidates.specs.Viewed.{the_view};
 
+use crate::memory::{
+    EXAMPLE, GIVEN_AT, GUIDES_AT, MOST_BYTES, MOST_EXAMPLES, MOST_ROWS, PROBLEM, ROWS_AT, TEXTS_AT,
+    WANTED_AT,
+};
 use crate::problem::Problem;
+use crate::rows::Rows;
 
 impl<'a> Problem<'a> {
     // The numbers that a problem was laid down in, as a problem.
@@ -12,12 +17,25 @@ impl<'a> Problem<'a> {
         ensures { the_view result ≡ view_of numbers.now }
     {
         Problem {
-            examples: (numbers[0] as usize).min(8),
-            rows: (numbers[1] as usize).min(6500),
-            texts: &numbers[16..1186],
-            guide: &numbers[1186..5866],
-            table: &numbers[5866..109866],
+            examples: (numbers[0] as usize).min(MOST_EXAMPLES),
+            rows: Rows {
+                numbers: &numbers[ROWS_AT..PROBLEM],
+                count: (numbers[1] as usize).min(MOST_ROWS),
+            },
+            texts: &numbers[TEXTS_AT..GUIDES_AT],
+            guide: &numbers[GUIDES_AT..ROWS_AT],
         }
+    }
+
+    // The text that lies from a position on, as long as the number at another says.
+    fn text(self, long: usize, from: usize) -> &'a [u64]
+        requires said { long < 1170 }
+        requires room { from + 64 ≤ 1170 }
+        ensures value { result.now ≡ take (min (slice_index self.entry.texts.now long) 64) (drop from self.entry.texts.now) }
+        ensures bound { length result.now ≤ 64 }
+    {
+        let length = (self.texts[long] as usize).min(MOST_BYTES);
+        &self.texts[from..from + length]
     }
 
     // The given text of an example.
@@ -25,9 +43,7 @@ impl<'a> Problem<'a> {
         requires { e < 9 }
         ensures { result.now ≡ given_in (the_view self.entry) e }
     {
-        let from = 130 * e + 2;
-        let length = (self.texts[130 * e] as usize).min(64);
-        &self.texts[from..from + length]
+        self.text(EXAMPLE * e, EXAMPLE * e + GIVEN_AT)
     }
 
     // The wanted text of an example.
@@ -36,8 +52,6 @@ impl<'a> Problem<'a> {
         ensures value { result.now ≡ wanted_in (the_view self.entry) e }
         ensures bound { length result.now ≤ 64 }
     {
-        let from = 130 * e + 66;
-        let length = (self.texts[130 * e + 1] as usize).min(64);
-        &self.texts[from..from + length]
+        self.text(EXAMPLE * e + 1, EXAMPLE * e + WANTED_AT)
     }
 }

@@ -9,12 +9,12 @@ pub loop-e-init : goal.loop-e-init
 unfolding guides_laid
 loop-e-init c = refl
 
-pub lay_in_place-requires : goal.lay_in_place-requires
-lay_in_place-requires c =
+pub invariant_of-costed : goal.invariant_of-costed
+invariant_of-costed c =
     let few = short_read c.args.examples.now c.loop-e.e _ (omega arith) c.requires.short in
-    record { size = omega arith; one_of_eight = omega arith; given_short = few.0; wanted_short = few.1; costs_small = c.requires.costs_small c.loop-e.e (omega arith) }
+    record { costs_small = c.requires.costs_small c.loop-e.e (omega arith); given_short = few.0; wanted_short = few.1 }
 
 pub loop-e-preserved : goal.loop-e-preserved
 loop-e-preserved c =
-    guides_goes_on c.args.costs.now c.args.examples.now c.args.out.now c.loop-e.out c.lay_in_place.new.out c.loop-e.e _ (omega arith)
-    c.lay_in_place.ensures c.loop-e.invariant
+    guides_goes_on c.args.costs.now c.args.examples.now c.args.out.now c.loop-e.out c.lay_guide.new.out c.loop-e.e _ (omega arith)
+    c.lay_guide.ensures c.loop-e.invariant

@@ -1,17 +1,15 @@
 -- A row read lowers the costs.
-use Rattle.std.proofs.Common.{◌+◌, replicate, sym, ap, ◌∙◌, arith, rules}
-use Rattle.candidates.specs.RowTable.{row_number}
-use Rattle.candidates.specs.Guide.{lowered, least_costs}
+use Rattle.std.proofs.Common.{replicate, ◌∙◌, arith, rules}
+use Rattle.candidates.specs.Guide.{least_costs}
 use Rattle.candidates.proofs.LeastCosts.{least_costs_more}
 use Rattle.candidates.proofs.guide.least_costs.Goals as goal
 
-pub loop-i-init : goal.loop-i-init
+pub loop-row-init : goal.loop-row-init
 unfolding least_costs
-loop-i-init c = search rules
+loop-row-init c = search rules
 
-pub loop-i-preserved : goal.loop-i-preserved
-loop-i-preserved c = (
+pub loop-row-preserved : goal.loop-row-preserved
+loop-row-preserved c = (
   omega arith,
-  c.lower.ensures ∙ ap (λ l. lowered l (row_number c.args.table.now c.loop-i.i (6 + c.args.e)) (row_number c.args.table.now c.loop-i.i 5)) c.loop-i.invariant.1
-      ∙ sym (least_costs_more c.args.table.now c.args.e c.loop-i.i (replicate 65 255)),
+  c.lower.ensures ∙ cc (c.loop-row.invariant.1, c.at.ensures, c.cost.ensures, least_costs_more c.args.rows.numbers.now c.args.e c.loop-row.row (replicate 65 255)),
 )

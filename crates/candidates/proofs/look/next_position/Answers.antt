@@ -1,17 +1,13 @@
--- The piece stands next where the bytes there are its own, and not where there is no room for it.
-use Rattle.std.proofs.Common.{sym, refl, ◌∙◌, arith}
-use Rattle.candidates.proofs.PieceStands.{stands, differs, no_room}
+-- The piece stands next where what is left begins with it.
+use Rattle.std.proofs.Common.{◌∙◌, arith}
+use Rattle.std.proofs.lemmas.List.{take_rest}
+use Rattle.candidates.proofs.PieceStands.{no_room, begins}
 use Rattle.candidates.proofs.look.next_position.Goals as goal
 
-pub returns-then-from-wanted : goal.returns-then-from-wanted
-returns-then-from-wanted c = no_room _ _ _ (omega arith)
+pub returns-in_err-rest : goal.returns-in_err-rest
+returns-in_err-rest c = c.from_residual.ensures ∙ no_room c.args.piece.now c.args.wanted.now c.args.at c.in_err-rest.ensures.lookup.0
 
-pub returns-then-is_same : goal.returns-then-is_same
-returns-then-is_same c = stands _ _ _ _ refl c.if-to-wanted.true (sym c.is_same.ensures ∙ c.if-is_same.true)
-
-pub returns-else-to-wanted : goal.returns-else-to-wanted
-returns-else-to-wanted c =
-    elim c.else-to-wanted.branch [
-      | goal.else-to-wanted-via-then-to-wanted+else-is_same w ↦ differs _ _ _ _ refl w.if-to-wanted.true (sym w.is_same.ensures ∙ w.if-is_same.false)
-      | goal.else-to-wanted-via-else-to-wanted w ↦ no_room _ _ _ w.if-to-wanted.false
-    ]
+pub returns : goal.returns
+returns c =
+    let rest = c.in_ok-rest.ensures.lookup.0 in
+    c.then_some.ensures ∙ begins c.args.piece.now c.args.wanted.now c.args.at c.starts_with.result c.in_ok-rest.rest.now (rest.2 ∙ take_rest c.args.wanted.now c.args.at) rest.0 c.starts_with.ensures.bound c.starts_with.ensures.value

@@ -1,17 +1,15 @@
-use Rattle.std.proofs.Common.{◌≡◌, length, get_or, sym, ap, ◌∙◌, arith}
+use Rattle.std.proofs.Common.{◌≡◌, eqb, length, get_or, refl, ◌∙◌, arith, rules, tests}
+use Rattle.std.specs.List.{range_with_len, list_all}
+use Rattle.std.proofs.lemmas.Iterator.{YieldsList-from_range}
+use Rattle.std.proofs.lemmas.Iterator.Search.{all_from_yields_List}
+use Rattle.candidates.specs.Problem.{wanted_in}
 use Rattle.candidates.specs.Viewed.{the_view}
-use Rattle.candidates.proofs.LookSays.{end_none, end_more, end_stops}
+use Rattle.candidates.proofs.LookSays.{ends_all}
 use Rattle.candidates.proofs.problem.Problem.at_end.Goals as goal
 
-pub loop-e-init : goal.loop-e-init
-loop-e-init c = end_none (the_view c.args.self) _
-
-pub returns-then-state-e : goal.returns-then-state-e
-returns-then-state-e c =
-    sym (end_stops (the_view c.args.self) c.args.state.now c.loop-e.e c.args.self.examples c.loop-e-test.true
-    (λ e. let ended : get_or c.args.state.now c.loop-e.e 0 ≡ length c.wanted.result.now = e ∙ sym (ap length c.wanted.ensures.value) in omega arith))
-
-pub loop-e-preserved : goal.loop-e-preserved
-loop-e-preserved c =
-    let ended : get_or c.args.state.now c.loop-e.e 0 ≡ length c.wanted.result.now = omega arith in
-    end_more (the_view c.args.self) c.args.state.now c.loop-e.e c.loop-e.invariant (ended ∙ ap length c.wanted.ensures.value)
+pub returns : goal.returns
+returns c =
+    let all : c.all.result ≡ list_all (λ e. eqb (get_or c.args.state.now e 0) (length (wanted_in (the_view c.args.self) e))) (range_with_len 0 c.args.self.examples) =
+    all_from_yields_List (λ e. eqb (get_or c.args.state.now e 0) (length (wanted_in (the_view c.args.self) e))) _ _ _ c.all.ensures.ran
+    (YieldsList-from_range 0 c.args.self.examples c.args.self.examples refl (omega arith)) (λ x b q k. search (rules, tests)) in
+    all ∙ ends_all (the_view c.args.self) c.args.state.now c.args.self.examples

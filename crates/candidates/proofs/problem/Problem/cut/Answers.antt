@@ -9,9 +9,9 @@ some i (suc n) h = omega arith
 pub returns : goal.returns
 returns c =
     let i = c.args.number in
-    let n = c.args.self.rows in
+    let n = c.args.self.rows.count in
     let pos = some i n c.requires in
-    let room = c.args.self.room in
+    let room = c.args.self.rows.few in
     let q : i / n < n = (div-lt_iff_lt-mul pos).1 c.requires in
     let r : i % n < n = mod-lt i pos in
-    record { value = λ e. refl; weight = refl; right = (omega arith, omega arith) }
+    record { value = λ e. refl; weight = refl; spelled = refl; right = (omega arith, omega arith) }

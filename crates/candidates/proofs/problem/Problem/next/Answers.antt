@@ -5,12 +5,12 @@ use Rattle.candidates.specs.Problem.{wanted_in}
 use Rattle.candidates.specs.Viewed.{the_view}
 use Rattle.candidates.proofs.problem.Problem.next.Goals as goal
 
-pub returns-in-Some : goal.returns-in-Some
+pub returns-in_err-piece : goal.returns-in_err-piece
 unfolding next_by
-returns-in-Some c =
-    c.next_position.ensures ∙ ap (λ w. next_position c.in-Some.piece.now w c.args.at) c.wanted.ensures.value
-    ∙ ap (λ m. next_by m (wanted_in (the_view c.args.self) c.args.e) c.args.at) c.in-Some.ensures
+returns-in_err-piece c = c.from_residual.ensures ∙ ap (λ m. next_by m (wanted_in (the_view c.args.self) c.args.e) c.args.at) c.in_err-piece.ensures
 
-pub returns-in-None : goal.returns-in-None
+pub returns : goal.returns
 unfolding next_by
-returns-in-None c = ap (λ m. next_by m (wanted_in (the_view c.args.self) c.args.e) c.args.at) c.in-None.ensures
+returns c =
+    c.next_position.ensures ∙ ap (λ w. next_position c.in_ok-piece.piece.now w c.args.at) c.wanted.ensures.value
+    ∙ ap (λ m. next_by m (wanted_in (the_view c.args.self) c.args.e) c.args.at) c.in_ok-piece.ensures

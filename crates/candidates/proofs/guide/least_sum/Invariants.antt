@@ -1,6 +1,0 @@
--- What is least so far, and what is least of the rest, give the whole.
-use Rattle.candidates.proofs.LeastSumSoFar.{LeastSoFar}
-use Rattle.candidates.proofs.guide.least_sum.Given as goal
-
-abbrev pub invariant-loop-i : goal.invariant-loop-i
-invariant-loop-i l = LeastSoFar l.k l.weights l.behind l.i l.least
