@@ -4,6 +4,12 @@ ghost use Rattle.std.specs.Prelude.{◌≤◌};
 use crate::frame::Frame;
 use crate::status::Status;
 
+// No rule weighs more: eight literals of 64 bytes.
+pub(crate) const LIMIT: u64 = 33416;
+
+// The shortfall that a round starts from.
+pub(crate) const FAR: u64 = 65536;
+
 #[derive(Clone, Copy)]
 pub struct Machine {
     pub(crate) status: Status,
