@@ -1,20 +1,22 @@
 -- Begun on examples and advanced, a search in memory ends right; what a loop over its pieces needs to know.
-use Rattle.std.proofs.Common.{◌≡◌, ℕ, suc, ◌*◌, ◌<◌, true, ◌⊎◌, List, [], length, sym, refl, ap, ◌∙◌, subst, ap₂, inl, inr, arith}
+use Rattle.std.proofs.Common.{◌≡◌, ℕ, suc, ◌*◌, ◌<◌, true, ◌⊎◌, List, [], length, Ok, sym, refl, ap, ◌∙◌, subst, ap₂, inl, inr, arith}
 use Rattle.rules.specs.Examples.{Example}
 use Rattle.rules.specs.Order.{rule_spelled}
 use Rattle.candidates.specs.Rows.{small_examples}
-use Rattle.search.specs.Begun.{begun_in}
+use Rattle.search.specs.Begun.{begun_in, told_by, left_by}
 use Rattle.search.specs.ByExamples.{held_begun, rule_in}
 use Rattle.search.specs.Memory.{memory_size, problem_in, loaded, advanced, advances}
 use Rattle.search.specs.MemoryPromises.{EndedIn, Begins, FindsTheFirst, SaysNoWrong, SpellsTheRule, CarriedOut}
+use Rattle.search.specs.Refusals.{refusal_of}
 use Rattle.search.specs.Spelled.{spelled_in}
 use Rattle.search.specs.Steps.{Held, held_steps}
 use Rattle.search.specs.declared.status.Status.{Status}
-use Rattle.search.specs.declared.status.Status.TheVariants.{Going, Found, NoRule}
+use Rattle.search.specs.declared.status.Status.TheVariants.{Going, Found}
 use Rattle.search.proofs.BegunInMemory.{begins_there}
 use Rattle.search.proofs.FoundSpelled.{held_spelled}
 use Rattle.search.proofs.PiecesEnd.{pieces_end, never_wrong_in}
 use Rattle.search.proofs.PiecesFall.{left_in, pieces_fall}
+use Rattle.search.proofs.RefusalsTold.{none_refused, none_small}
 use Rattle.search.proofs.StatesKeepLength.{loaded_shaped, steps_shaped}
 use Rattle.search.proofs.StoredAndLoaded.{pieces, stored_loaded}
 
@@ -45,6 +47,13 @@ pub record UnderWay (es : List Example) (begun m : List ℕ) : Type 0 where
 pub under_way : (es : List Example) (before m : List ℕ) → small_examples es ≡ true → length before ≡ memory_size → m ≡ begun_in es before → UnderWay es m m
 unfolding advances
 under_way es before m s h e = record { begins = subst (Begins es []) (sym e) (begins_there es before s h); pieces = 0; memory = refl }
+
+-- where nothing was refused the examples are small, and the memory is that of a search that begins
+pub begun_well : (es : List Example) (before after : List ℕ) (x : Unit {0}) → Ok x ≡ told_by (refusal_of es) → after ≡ left_by (refusal_of es) (begun_in es before) before →
+    (small_examples es ≡ true) × (after ≡ begun_in es before)
+begun_well es before after x told is =
+    let none = none_refused (refusal_of es) x told in
+    (none_small es none, is ∙ ap (λ o. left_by o (begun_in es before) before) none)
 
 module _ (es : List Example) (begun m after : List ℕ) (st : Status) (u : UnderWay es begun m) (e : after ≡ advanced m) (told : st ≡ (held_steps (problem_in m) 64 (loaded m)).status) where
   more : after ≡ advances (suc u.pieces) begun
@@ -83,9 +92,3 @@ module _ (es : List Example) (begun m after : List ℕ) (st : Status) (u : Under
       ends : ((loaded (advances (suc u.pieces) begun)).status ≡ Going) ⊎ EndedIn es (advances (suc u.pieces) begun) → EndedIn es after
       ends (inl g) = absurd (done (sym status_is ∙ ap (λ z. (loaded z).status) more ∙ g))
       ends (inr x) = subst (EndedIn es) (sym more) x
-
-pub found_ends : Found ≡ Going → ⊥
-found_ends e = let z : ◌≡◌ {A = ℕ} 0 1 = cc in omega arith
-
-pub none_ends : NoRule ≡ Going → ⊥
-none_ends e = let z : ◌≡◌ {A = ℕ} 0 1 = cc in omega arith

@@ -8,9 +8,6 @@ use crate::frame::Frame;
 use crate::machine::Machine;
 use crate::status::Status;
 
-// So many numbers of memory a search takes: 92 of its own, and those of the problem.
-pub const MEMORY: usize = 109958;
-
 impl Status {
     // The number of a status in memory.
     fn number(self) -> u64
@@ -85,9 +82,9 @@ impl Machine {
     }
 
     // Lays the machine down in memory.
-    pub(crate) fn store(self, memory: &mut [u64])
+    pub(crate) fn store(&self, memory: &mut [u64])
         requires { length memory.old ≡ memory_size }
-        ensures { memory.new ≡ stored (the_held self) memory.old }
+        ensures { memory.new ≡ stored (the_held self.now) memory.old }
     {
         let head = [
             self.status.number(),
