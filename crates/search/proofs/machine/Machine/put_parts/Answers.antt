@@ -12,13 +12,17 @@ pub loop-frame-init : goal.loop-frame-init
 loop-frame-init c = parts_none (the_view c.args.problem) c.args.self.now.frames _
 
 pub put_candidate-at-requires : goal.put_candidate-at-requires
-put_candidate-at-requires c = ?
+put_candidate-at-requires c =
+    let few = c.loop-frame.invariant.few in
+    let most = c.args.self.now.few in
+    let used = length-take c.args.self.now.depth c.args.self.now.frames in
+    omega (arith, c.loop-frame-test.true)
 
 pub loop-frame-preserved : goal.loop-frame-preserved
 loop-frame-preserved c =
     let few = c.loop-frame.invariant.few in
     let most = c.args.self.now.few in
-    let used : c.loop-frame.frame-index < c.args.self.now.depth = ? in
+    let used : c.loop-frame.frame-index < c.args.self.now.depth = omega (arith, length-take c.args.self.now.depth c.args.self.now.frames, c.loop-frame-test.true) in
     let frame : Frame = get_or (take c.args.self.now.depth c.args.self.now.frames) c.loop-frame.frame-index no_frame in
     parts_more (the_view c.args.problem) c.args.self.now.frames c.args.out.now c.loop-frame.frame-index c.loop-frame.at _ _ _ _ frame c.loop-frame.invariant (omega (arith, c.requires))
     (get_or-take c.args.self.now.depth c.args.self.now.frames c.loop-frame.frame-index no_frame used) c.saturating_sub-chosen.ensures c.put_candidate-at.ensures.after c.put_candidate-at.ensures.value c.put_candidate-at.ensures.bound
