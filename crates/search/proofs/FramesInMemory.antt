@@ -1,8 +1,13 @@
 -- Frames as they lie in memory: read where they were laid down, and laid down one behind the other.
-use Rattle.std.proofs.Common.{◌≡◌, ℕ, suc, ◌+◌, ◌-◌, ◌*◌, ◌<◌, ◌≤◌, Bool, true, eqb, List, [], ◌∷◌, ◌++◌, length, get_or, take, drop, sym, refl, ap, ◌∙◌, ap₂, append_assoc, append-nil, arith, length-append}
+use Rattle.std.proofs.Common.{◌≡◌, ℕ, zero, suc, ◌+◌, ◌-◌, ◌*◌, ◌<◌, ◌≤◌, Bool, true, eqb, List, [], ◌∷◌, ◌++◌, length, get_or, take, drop, sym, refl, map, subst, ⊎_elim, ap, ◌∙◌, ap₂, append_assoc, append-nil, arith, length-append}
 use borrow.Rule.Slice.PartMut.{put_mid}
 use Rattle.std.proofs.lemmas.List.{drop-drop, take_at, drop_at, get_or-drop, take_more, take_all}
-use Rattle.std.proofs.lemmas.Bool.{and_parts, eqb-true}
+use Rattle.std.proofs.lemmas.List.FromFn.{fill_by_all}
+use Rattle.std.proofs.lemmas.Bool.{and_parts, eqb-true, cases_eq}
+use Rattle.std.specs.Array.{IsFromFnResultFrom, IsFromFnResult}
+use Rattle.std.specs.Fn.{Called}
+use Rattle.std.specs.List.{range_with_len}
+use denote.Param.Members.{Mut}
 use Rattle.rules.specs.Lists.{flat, every}
 use Rattle.rules.specs.Answers.{written}
 use Rattle.rules.proofs.WrittenBytes.{copied_is, written_none, written_next}
@@ -10,6 +15,17 @@ use Rattle.search.specs.Memory.{frame_numbers, frame_from, frames_from}
 use Rattle.search.specs.Steps.{held}
 use Rattle.search.specs.declared.frame.Frame.{Frame}
 use Rattle.search.specs.declared.status.Status.{Status}
+
+-- an array that is made by calls which leave the closure as it is has at each index what the call answers there
+module _ {F B : Type 0} (g : Mut F (ℕ × Unit {0}) B) (h : ℕ → B) (f : F) (same : (i : ℕ) (y : B) (f' : F) → Called g f (i, tt) y f' → (y ≡ h i) × (f' ≡ f)) where
+  made_at : (ys : List B) (i n : ℕ) (f' : F) → f' ≡ f → IsFromFnResultFrom g f' ys i n → (k : ℕ) (d : B) → i ≤ k → k < i + n → get_or ys k d ≡ h k
+  made_at ys i zero f' e r k d a b = absurd (omega arith)
+  made_at ys i (suc n) f' e (q, y, is, called, rest) k d a b =
+      let one = same i y q (subst (λ p. Called g p (i, tt) y q) e called) in
+      ⊎_elim (λ here. ap (λ j. get_or ys j d) here ∙ is.1 d ∙ one.0 ∙ ap h (sym here)) (λ past. made_at ys (i + 1) n q one.1 rest k d (omega arith) (omega arith)) (cases_eq k i)
+
+  pub made_from : (ys : List B) (n : ℕ) (d : B) → IsFromFnResult g f ys n → ys ≡ map h (range_with_len 0 n)
+  made_from ys n d r = fill_by_all h ys n d r.long (λ k b. made_at ys 0 n f refl r.each k d (omega arith) (omega arith))
 
 none : (m : List ℕ) → [] ≡ frames_from 0 m
 unfolding frames_from
@@ -35,7 +51,7 @@ unfolding frames_from
 next_frame m k at fs e = ap (λ l. frame_from (drop at m) ∷ l) (e ∙ ap (frames_from k) (sym (drop-drop 11 at m)))
 
 -- eight frames
-pub frames_are : (m : List ℕ) → frame_from (drop 4 m) ∷ frame_from (drop 15 m) ∷ frame_from (drop 26 m) ∷ frame_from (drop 37 m) ∷ frame_from (drop 48 m) ∷ frame_from (drop 59 m) ∷ frame_from (drop 70 m) ∷ frame_from (drop 81 m) ∷ [] ≡ frames_from 8 (drop 4 m)
+pub frames_are : (m : List ℕ) → map (λ i. frame_from (drop (4 + 11 * i) m)) (range_with_len 0 8) ≡ frames_from 8 (drop 4 m)
 frames_are m =
     next_frame m 7 4 _ (next_frame m 6 15 _ (next_frame m 5 26 _ (next_frame m 4 37 _ (next_frame m 3 48 _ (next_frame m 2 59 _ (next_frame m 1 70 _ (next_frame m 0 81 [] no_frames)))))))
   where

@@ -2,13 +2,21 @@
 ghost use Rattle.std.specs.Prelude.{◌≡◌, true, length};
 ghost use Rattle.search.specs.Memory.{memory_size};
 
-use crate::machine::Machine;
+use crate::frame::Frame;
+use crate::machine::{FAR, LIMIT, Machine};
 use candidates::{Example, Problem, lay};
+use std::array;
 
-// The numbers of the machine.
-const MACHINE: usize = 92;
+// How far the search has come, the budget, the shortfall, and how many frames are in use.
+const HEAD: usize = 4;
 
-// The numbers of a search.
+// A frame: nine positions, what is left of the budget, and the next candidate.
+const FRAME: usize = 11;
+
+// Behind eight frames lies the problem.
+const PROBLEM: usize = HEAD + 8 * FRAME;
+
+// So many numbers of memory a search takes.
 pub const MEMORY: usize = 109958;
 
 #[derive(Drop)]
@@ -39,7 +47,7 @@ impl<'a> Search<'a> {
     pub(crate) fn problem(&self) -> Problem
         ensures { the_view result ≡ problem_in (the_memory self.now) }
     {
-        Problem::of(&self.memory[MACHINE..MEMORY])
+        Problem::of(&self.memory[PROBLEM..MEMORY])
     }
 
     // Lays down the problem of the examples.
@@ -48,14 +56,21 @@ impl<'a> Search<'a> {
         ensures same_reference { (lent self.new).ghost_name ≡ (lent self.old).ghost_name }
         ensures memory { the_memory self.new ≡ with_problem (the_examples examples.now) (the_memory self.old) }
     {
-        lay(&mut self.memory[MACHINE..MEMORY], examples, None);
+        lay(&mut self.memory[PROBLEM..MEMORY], examples, None);
     }
 
-    // The machine, as it lies in memory.
+    // The machine, as it lies in memory; numbers that no search leaves there are cut down to those that one can.
     pub(crate) fn machine(&self) -> Machine
         ensures { the_held result ≡ loaded (the_memory self.now) }
     {
-        Machine::load(self.memory)
+        let memory = &self.memory[..];
+        Machine {
+            status: memory[0].into(),
+            budget: memory[1].min(LIMIT),
+            short: memory[2].min(FAR),
+            depth: (memory[3] as usize).min(8),
+            frames: array::from_fn(|i| Frame::at(memory, HEAD + FRAME * i)),
+        }
     }
 
     // Lays the machine down.
@@ -63,6 +78,15 @@ impl<'a> Search<'a> {
         ensures same_reference { (lent self.new).ghost_name ≡ (lent self.old).ghost_name }
         ensures memory { the_memory self.new ≡ stored (the_held machine.now) (the_memory self.old) }
     {
-        machine.store(self.memory);
+        let head = [
+            machine.status.into(),
+            machine.budget,
+            machine.short,
+            machine.depth as u64,
+        ];
+        self.memory[..HEAD].copy_from_slice(&head);
+        for (i, frame) in machine.frames.iter().enumerate() {
+            frame.put(self.memory, HEAD + FRAME * i);
+        }
     }
 }
