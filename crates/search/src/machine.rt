@@ -1,5 +1,6 @@
 // A search at some point: the budget of the round, the shortfall that was noted in it, and the frames, of which the first `depth` are in use.
 ghost use Rattle.std.specs.Prelude.{◌≤◌};
+ghost use Rattle.search.specs.declared.machine.TheConstants.{LIMIT, FAR};
 
 use crate::frame::Frame;
 use crate::status::Status;
@@ -18,6 +19,6 @@ pub struct Machine {
     pub(crate) depth: usize,
     pub(crate) frames: [Frame; 8],
     ghost few: { depth ≤ 8 },
-    ghost cheap: { budget ≤ 33416 },
-    ghost near: { short ≤ 65536 },
+    ghost cheap: { budget ≤ LIMIT },
+    ghost near: { short ≤ FAR },
 }

@@ -39,6 +39,7 @@ impl Search<'_> {
     }
 
     // Advances the search by a piece, and says how far it has come then.
+    #[tactic(auto, unfolding(crate::specs::Memory::advanced))]
     pub fn advance(&mut self) -> Status
         ensures same_reference { (lent self.new).ghost_name ≡ (lent self.old).ghost_name }
         ensures memory { the_memory self.new ≡ advanced (the_memory self.old) }

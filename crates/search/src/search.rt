@@ -44,7 +44,7 @@ impl<'a> Search<'a> {
     }
 
     // The problem, as it lies in memory.
-    pub(crate) fn problem(&self) -> Problem
+    pub(crate) fn problem(&self) -> Problem<'_>
         ensures { the_view result ≡ problem_in (the_memory self.now) }
     {
         Problem::of(&self.memory[PROBLEM..MEMORY])

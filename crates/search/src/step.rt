@@ -1,7 +1,7 @@
 // One step of a search: a look at a candidate, back to the frame before, or the next round.
-ghost use Rattle.std.specs.Prelude.{◌≡◌, ◌-◌, ◌<◌, slice_index_or};
+ghost use Rattle.std.specs.Prelude.{◌≡◌, ◌<◌};
 ghost use Rattle.candidates.specs.Viewed.{the_view};
-ghost use Rattle.search.specs.Steps.{frame_step, held, held_step, round_with, no_frame};
+ghost use Rattle.search.specs.Steps.{held, held_step, round_with};
 ghost use Rattle.search.specs.declared.status.Status.TheVariants.{Going};
 ghost use Rattle.search.specs.ByExamples.{held_begun};
 ghost use Rattle.search.specs.Holds.{the_held};
@@ -56,10 +56,11 @@ impl Machine {
     }
 
     // A look at the next candidate of the last frame in use; or back to the frame before it, if there is none.
+    #[tactic(auto, unfolding(crate::specs::Steps::held_step, crate::specs::Steps::going_step))]
     fn look_on(&mut self, problem: Problem)
         requires going { self.old.status ≡ Going }
-        requires used { 0 < self.old.depth }
-        ensures { the_held self.new ≡ frame_step (the_view problem.entry) self.old.budget self.old.short (self.old.depth - 1) self.old.frames (slice_index_or self.old.frames (self.old.depth - 1) no_frame) }
+        requires in_use { 0 < self.old.depth }
+        ensures { the_held self.new ≡ held_step (the_view problem.entry) (the_held self.old) }
     {
         let last = self.depth - 1;
         let frame = &self.frames[last];
@@ -74,21 +75,19 @@ impl Machine {
             Outcome::Ends => self.status = Status::Found,
             Outcome::Enters { state, left } => if last < 7 {
                 self.frames[last + 1] = Frame::entered(state, left);
-                self.depth = last + 2;
+                self.depth += 1;
             },
         }
     }
 
     // One step.
+    #[tactic(auto, unfolding(crate::specs::Steps::held_step, crate::specs::Steps::going_step))]
     pub(crate) fn step(&mut self, problem: Problem)
         ensures { the_held self.new ≡ held_step (the_view problem.entry) (the_held self.old) }
     {
         match self.status {
-            Status::Going => if self.depth == 0 {
-                self.begin_round(self.budget + self.short);
-            } else {
-                self.look_on(problem);
-            },
+            Status::Going if self.depth == 0 => self.begin_round(self.budget + self.short),
+            Status::Going => self.look_on(problem),
             Status::Found | Status::NoRule => {}
         }
     }

@@ -1,5 +1,5 @@
 // A whole search: begun, and advanced until it ends.
-ghost use Rattle.std.specs.Prelude.{◌≡◌, Some, MatchResult};
+ghost use Rattle.std.specs.Prelude.{◌≡◌, Some, IfOk, IfErr};
 ghost use Rattle.candidates.specs.Values.{the_examples};
 ghost use Rattle.search.specs.MemoryPromises.{CarriedOut};
 ghost use Rattle.search.specs.Refusals.{refusal_of};
@@ -14,7 +14,9 @@ impl Search<'_> {
     // How the search for the first rule that does the examples ends; the memory then has the rule. That it ends is proved, and not how soon.
     pub fn find(&mut self, examples: &[Example]) -> Result<Status, Refusal>
         ensures same_reference { (lent self.new).ghost_name ≡ (lent self.old).ghost_name }
-        ensures ended { MatchResult result (λ st. CarriedOut (the_examples examples.now) (the_memory self.old) (the_memory self.new) st) (λ refusal. (refusal_of (the_examples examples.now) ≡ Some refusal) × (the_memory self.new ≡ the_memory self.old)) }
+        ensures ended { IfOk result (CarriedOut (the_examples examples.now) (the_memory self.old) (the_memory self.new)) }
+        ensures refused { IfErr result (λ refusal. refusal_of (the_examples examples.now) ≡ Some refusal) }
+        ensures unchanged { IfErr result (λ _. the_memory self.new ≡ the_memory self.old) }
     {
         self.begin(examples)?;
         loop {

@@ -8,8 +8,8 @@ use Rattle.search.proofs.search.Search.find.Given as goal
 
 abbrev pub invariant-loop-ended : goal.invariant-loop-ended
 invariant-loop-ended l = record {
-  same_reference : (lent l.self).ghost_name ≡ (lent l.initial.self).ghost_name;
-  under_way : UnderWay (the_examples l.examples) (the_memory l.initial.self) (the_memory l.self);
+  same_reference : (lent l.self).ghost_name ≡ (lent l.fn.self).ghost_name;
+  under_way : UnderWay (the_examples l.examples) (the_memory l.fn.self) (the_memory l.self);
 }
 
 -- how many steps are left at most
