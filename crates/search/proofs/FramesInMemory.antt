@@ -2,12 +2,8 @@
 use Rattle.std.proofs.Common.{◌≡◌, ℕ, zero, suc, ◌+◌, ◌-◌, ◌*◌, ◌<◌, ◌≤◌, Bool, true, eqb, List, [], ◌∷◌, ◌++◌, length, get_or, take, drop, sym, refl, map, subst, ⊎_elim, ap, ◌∙◌, ap₂, append_assoc, append-nil, arith, length-append}
 use borrow.Rule.Slice.PartMut.{put_mid}
 use Rattle.std.proofs.lemmas.List.{drop-drop, take_at, drop_at, get_or-drop, take_more, take_all}
-use Rattle.std.proofs.lemmas.List.FromFn.{fill_by_all}
-use Rattle.std.proofs.lemmas.Bool.{and_parts, eqb-true, cases_eq}
-use Rattle.std.specs.Array.{IsFromFnResultFrom, IsFromFnResult}
-use Rattle.std.specs.Fn.{Called}
+use Rattle.std.proofs.lemmas.Bool.{and_parts, eqb-true}
 use Rattle.std.specs.List.{range_with_len}
-use denote.Param.Members.{Mut}
 use Rattle.rules.specs.Lists.{flat, every}
 use Rattle.rules.specs.Answers.{written}
 use Rattle.rules.proofs.WrittenBytes.{copied_is, written_none, written_next}
@@ -15,17 +11,6 @@ use Rattle.search.specs.Memory.{frame_numbers, frame_from, frames_from}
 use Rattle.search.specs.Steps.{held}
 use Rattle.search.specs.declared.frame.Frame.{Frame}
 use Rattle.search.specs.declared.status.Status.{Status}
-
--- an array that is made by calls which leave the closure as it is has at each index what the call answers there
-module _ {F B : Type 0} (g : Mut F (ℕ × Unit {0}) B) (h : ℕ → B) (f : F) (same : (i : ℕ) (y : B) (f' : F) → Called g f (i, tt) y f' → (y ≡ h i) × (f' ≡ f)) where
-  made_at : (ys : List B) (i n : ℕ) (f' : F) → f' ≡ f → IsFromFnResultFrom g f' ys i n → (k : ℕ) (d : B) → i ≤ k → k < i + n → get_or ys k d ≡ h k
-  made_at ys i zero f' e r k d a b = absurd (omega arith)
-  made_at ys i (suc n) f' e (q, y, is, called, rest) k d a b =
-      let one = same i y q (subst (λ p. Called g p (i, tt) y q) e called) in
-      ⊎_elim (λ here. ap (λ j. get_or ys j d) here ∙ is.1 d ∙ one.0 ∙ ap h (sym here)) (λ past. made_at ys (i + 1) n q one.1 rest k d (omega arith) (omega arith)) (cases_eq k i)
-
-  pub made_from : (ys : List B) (n : ℕ) (d : B) → IsFromFnResult g f ys n → ys ≡ map h (range_with_len 0 n)
-  made_from ys n d r = fill_by_all h ys n d r.long (λ k b. made_at ys 0 n f refl r.each k d (omega arith) (omega arith))
 
 none : (m : List ℕ) → [] ≡ frames_from 0 m
 unfolding frames_from
@@ -39,11 +24,6 @@ flat_more : (fs : List Frame) (i : ℕ) (f : Frame) → i < length fs → f ≡ 
 flat_more fs i f h e =
     sym (ap (flat frame_numbers) (take_more fs i f h) ∙ flat_append frame_numbers (take i fs) (get_or fs i f ∷ []) ∙ ap (λ z. flat frame_numbers (take i fs) ++ flat frame_numbers (z ∷ [])) (sym e)
     ∙ ap (λ l. flat frame_numbers (take i fs) ++ l) (append-nil (frame_numbers f)))
-
-pub frame_is : (m s : List ℕ) (at left index : ℕ) → s ≡ take (at + 9 - at) (drop at m) → left ≡ get_or m (at + 9) 0 → index ≡ get_or m (at + 10) 0 → record { state = s; left = left; index = index } ≡ frame_from (drop at m)
-frame_is m s at left index e l i =
-    ap (λ z. record { state = z; left = left; index = index }) (e ∙ ap (λ n. take n (drop at m)) (let k : at + 9 - at ≡ 9 = omega arith in k))
-    ∙ ap₂ (λ x y. record { state = take 9 (drop at m); left = x; index = y }) (l ∙ sym (get_or-drop at m 9 0)) (i ∙ sym (get_or-drop at m 10 0))
 
 -- one frame, and those 11 numbers further on
 next_frame : (m : List ℕ) (k at : ℕ) (fs : List Frame) → fs ≡ frames_from k (drop (at + 11) m) → frame_from (drop at m) ∷ fs ≡ frames_from (suc k) (drop at m)

@@ -3,7 +3,8 @@ use Rattle.std.proofs.Common.{◌+◌, ◌*◌, drop, ◌∙◌, rules}
 use Rattle.search.specs.Memory.{frame_from, loaded}
 use Rattle.search.specs.Searched.{the_memory}
 use Rattle.search.specs.Steps.{no_frame}
-use Rattle.search.proofs.FramesInMemory.{made_from, frames_are, held_same}
+use Rattle.search.proofs.ArraysMade.{made_from}
+use Rattle.search.proofs.FramesInMemory.{frames_are, held_same}
 use Rattle.search.proofs.search.Search.machine.Goals as goal
 
 pub returns : goal.returns
