@@ -16,6 +16,7 @@ const PIECE: usize = 64;
 
 impl Machine {
     // So many steps.
+    #[tactic(auto, using(crate::proofs::StepsInTurn::steps_none, crate::proofs::StepsInTurn::steps_more))]
     fn run(&mut self, problem: Problem, steps: usize)
         ensures { the_held self.new ≡ held_steps (the_view problem.entry) steps (the_held self.old) }
     {

@@ -6,9 +6,6 @@ use Rattle.search.specs.Searched.{the_memory}
 use Rattle.search.proofs.FramesInMemory.{frames_none, frames_more, frames_all}
 use Rattle.search.proofs.search.Search.keep.Goals as goal
 
-pub loop-i-init : goal.loop-i-init
-loop-i-init c = record { same_reference = refl; laid = frames_none _ _ }
-
 pub loop-i-preserved : goal.loop-i-preserved
 loop-i-preserved c =
     let eight : length c.args.machine.now.frames ≡ 8 = search rules in
@@ -18,14 +15,4 @@ loop-i-preserved c =
     record {
       same_reference = c.loop-i.invariant.same_reference;
       laid = frames_more _ _ _ c.args.machine.now.frames c.loop-i.i _ c.loop-i.invariant.laid c.put.ensures.laid c.put.ensures.nine (omega arith) (omega arith) (get_or_default c.args.machine.now.frames c.loop-i.i _ _ (omega arith));
-    }
-
-pub returns : goal.returns
-returns c =
-    let eight : length c.args.machine.now.frames ≡ 8 = search rules in
-    let past : 8 ≤ c.loop-i.i = c.loop-i-test.false in
-    record {
-      same_reference = c.loop-i.invariant.same_reference;
-      memory = frames_all (the_memory c.args.self.now) (status_number c.args.machine.now.status ∷ c.args.machine.now.budget ∷ c.args.machine.now.short ∷ c.args.machine.now.depth ∷ []) _ _ c.args.machine.now.frames c.loop-i.i
-          (ap (λ h. h ++ drop 4 (the_memory c.args.self.now)) (c.copy_from_slice.ensures.after ∙ ap (λ n. n ∷ c.args.machine.now.budget ∷ c.args.machine.now.short ∷ c.args.machine.now.depth ∷ []) c.into.ensures)) refl (omega (arith, c.args.self.now.size)) c.loop-i.invariant.laid (omega arith);
     }
