@@ -1,5 +1,5 @@
 -- Begun on examples and advanced, a search in memory ends right; what a loop over its pieces needs to know.
-use Rattle.std.proofs.Common.{◌≡◌, ℕ, suc, ◌*◌, ◌<◌, true, ◌⊎◌, List, [], length, Ok, sym, refl, ap, ◌∙◌, subst, ap₂, inl, inr, arith}
+use Rattle.std.proofs.Common.{◌≡◌, ℕ, suc, ◌*◌, ◌<◌, true, ◌⊎◌, List, [], length, Ok, sym, ap, ◌∙◌, subst, ap₂, inl, inr, arith}
 use Rattle.rules.specs.Examples.{Example}
 use Rattle.rules.specs.Order.{rule_spelled}
 use Rattle.candidates.specs.Rows.{small_examples}
@@ -11,7 +11,7 @@ use Rattle.search.specs.Refusals.{refusal_of}
 use Rattle.search.specs.Spelled.{spelled_in}
 use Rattle.search.specs.Steps.{Held, held_steps}
 use Rattle.search.specs.declared.status.Status.{Status}
-use Rattle.search.specs.declared.status.Status.TheVariants.{Going, Found}
+use Rattle.search.specs.declared.status.Status.TheVariants.{Going}
 use Rattle.search.proofs.BegunInMemory.{begins_there}
 use Rattle.search.proofs.FoundSpelled.{held_spelled}
 use Rattle.search.proofs.PiecesEnd.{pieces_end, never_wrong_in}

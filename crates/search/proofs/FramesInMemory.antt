@@ -1,5 +1,5 @@
 -- Frames as they lie in memory: read where they were laid down, and laid down one behind the other.
-use Rattle.std.proofs.Common.{◌≡◌, ℕ, zero, suc, ◌+◌, ◌-◌, ◌*◌, ◌<◌, ◌≤◌, Bool, true, eqb, List, [], ◌∷◌, ◌++◌, length, get_or, take, drop, sym, refl, map, subst, ⊎_elim, ap, ◌∙◌, ap₂, append_assoc, append-nil, arith, length-append}
+use Rattle.std.proofs.Common.{◌≡◌, ℕ, suc, ◌+◌, ◌-◌, ◌*◌, ◌<◌, ◌≤◌, Bool, true, eqb, List, [], ◌∷◌, ◌++◌, length, get_or, take, drop, sym, refl, map, ap, ◌∙◌, ap₂, append_assoc, append-nil, arith, length-append}
 use borrow.Rule.Slice.PartMut.{put_mid}
 use Rattle.std.proofs.lemmas.List.{drop-drop, take_at, drop_at, get_or-drop, take_more, take_all}
 use Rattle.std.proofs.lemmas.Bool.{and_parts, eqb-true}

@@ -1,5 +1,5 @@
 -- What is told of examples that are refused.
-use Rattle.std.proofs.Common.{◌≡◌, ℕ, Bool, true, false, ltb, List, length, Some, None, Ok, Err, Option, sym, refl, ap₂}
+use Rattle.std.proofs.Common.{◌≡◌, ℕ, Bool, true, false, ltb, List, length, Some, None, Ok, Option, refl}
 use Rattle.rules.specs.Lists.{pick}
 use Rattle.rules.specs.Examples.{Example}
 use Rattle.candidates.specs.Rows.{small_examples}

@@ -6,6 +6,9 @@ ghost use Rattle.search.specs.Memory.{status_number, status_from, frame_numbers,
 use crate::frame::Frame;
 use crate::status::Status;
 
+// The numbers of a frame: nine positions, what is left of the budget, and the next candidate.
+pub(crate) const FRAME: usize = 11;
+
 impl From<Status> for u64 {
     ghost from_gives = { λ s n. n ≡ status_number s };
 
@@ -34,7 +37,7 @@ impl From<u64> for Status {
 impl Frame {
     // The frame that lies in memory from `at` on.
     pub(crate) fn at(memory: &[u64], at: usize) -> Frame
-        requires { at + 11 ≤ length memory.now }
+        requires { at + FRAME ≤ length memory.now }
         ensures { result ≡ frame_from (drop at memory.now) }
     {
         let mut state = [0; 9];
@@ -48,11 +51,11 @@ impl Frame {
 
     // Lays the frame down in memory from `at` on.
     pub(crate) fn put(&self, memory: &mut [u64], at: usize)
-        requires { at + 11 ≤ length memory.old }
+        requires { at + FRAME ≤ length memory.old }
         ensures laid { memory.new ≡ written memory.old at (frame_numbers self.now) }
         ensures nine { length self.now.state ≡ 9 }
     {
         memory[at..at + 9].copy_from_slice(&self.state);
-        memory[at + 9..at + 11].copy_from_slice(&[self.left, self.index]);
+        memory[at + 9..at + FRAME].copy_from_slice(&[self.left, self.index]);
     }
 }

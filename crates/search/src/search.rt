@@ -3,18 +3,16 @@ ghost use Rattle.std.specs.Prelude.{◌≡◌, true, length};
 ghost use Rattle.search.specs.Memory.{memory_size};
 
 use crate::frame::Frame;
-use crate::machine::{FAR, LIMIT, Machine};
+use crate::machine::{FAR, LIMIT, MOST_PARTS, Machine};
+use crate::memory::FRAME;
 use candidates::{Example, Problem, lay};
 use std::array;
 
 // How far the search has come, the budget, the shortfall, and how many frames are in use.
 const HEAD: usize = 4;
 
-// A frame: nine positions, what is left of the budget, and the next candidate.
-const FRAME: usize = 11;
-
-// Behind eight frames lies the problem.
-const PROBLEM: usize = HEAD + 8 * FRAME;
+// Behind the frames lies the problem.
+const PROBLEM: usize = HEAD + MOST_PARTS * FRAME;
 
 // So many numbers of memory a search takes.
 pub const MEMORY: usize = 109958;
@@ -68,7 +66,7 @@ impl<'a> Search<'a> {
             status: memory[0].into(),
             budget: memory[1].min(LIMIT),
             short: memory[2].min(FAR),
-            depth: (memory[3] as usize).min(8),
+            depth: (memory[3] as usize).min(MOST_PARTS),
             frames: array::from_fn(|i| Frame::at(memory, HEAD + FRAME * i)),
         }
     }

@@ -8,9 +8,12 @@ ghost use Rattle.search.specs.Holds.{the_held};
 
 use crate::frame::Frame;
 use crate::judge::{Outcome, judge};
-use crate::machine::{FAR, LIMIT, Machine};
+use crate::machine::{FAR, LIMIT, MOST_PARTS, Machine};
 use crate::status::Status;
 use candidates::Problem;
+
+// The state that a search starts from: nothing is made yet.
+const START: [u64; 9] = [0; 9];
 
 impl Machine {
     // Ends with no frame in use.
@@ -41,17 +44,17 @@ impl Machine {
             depth: 1,
             frames: self.frames,
         };
-        self.frames[0] = Frame::entered([0; 9], budget);
+        self.frames[0] = Frame::entered(START, budget);
     }
 
     // Begins the search: it is over at once if nothing is wanted.
     pub(crate) fn begin(&mut self, problem: Problem)
         ensures { the_held self.new ≡ held_begun (the_view problem.entry) (the_held self.old).frames }
     {
-        if problem.at_end(&[0; 9]) {
+        if problem.at_end(&START) {
             self.end(Status::Found);
         } else {
-            self.begin_round(problem.needed(8, &[0; 9]));
+            self.begin_round(problem.needed(MOST_PARTS, &START));
         }
     }
 
@@ -68,13 +71,13 @@ impl Machine {
             self.depth = last;
             return;
         }
-        let outcome = judge(problem, frame, 7 - last, self.short);
+        let outcome = judge(problem, frame, MOST_PARTS - self.depth, self.short);
         self.frames[last].index += 1;
         match outcome {
             Outcome::Over(short) => self.short = short,
             Outcome::Ends => self.status = Status::Found,
-            Outcome::Enters { state, left } => if last < 7 {
-                self.frames[last + 1] = Frame::entered(state, left);
+            Outcome::Enters { state, left } => if self.depth < MOST_PARTS {
+                self.frames[self.depth] = Frame::entered(state, left);
                 self.depth += 1;
             },
         }

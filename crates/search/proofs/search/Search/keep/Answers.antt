@@ -1,9 +1,8 @@
 -- The four numbers of the head, and behind them the frames one by one.
-use Rattle.std.proofs.Common.{◌≡◌, ◌<◌, ◌≤◌, [], ◌∷◌, ◌++◌, length, drop, refl, ap, ◌∙◌, arith, length-append, length-drop, rules}
+use Rattle.std.proofs.Common.{◌≡◌, ◌<◌, length, drop, arith, length-append, length-drop, rules}
 use Rattle.std.proofs.lemmas.List.{get_or_default}
-use Rattle.search.specs.Memory.{status_number}
 use Rattle.search.specs.Searched.{the_memory}
-use Rattle.search.proofs.FramesInMemory.{frames_none, frames_more, frames_all}
+use Rattle.search.proofs.FramesInMemory.{frames_more}
 use Rattle.search.proofs.search.Search.keep.Goals as goal
 
 pub loop-i-preserved : goal.loop-i-preserved
