@@ -53,6 +53,7 @@ impl Frame {
     pub(crate) fn put(&self, memory: &mut [u64], at: usize)
         requires { at + FRAME ≤ length memory.old }
         ensures laid { memory.new ≡ written memory.old at (frame_numbers self.now) }
+        // The type says it too, but a caller does not see that of an element.
         ensures nine { length self.now.state ≡ 9 }
     {
         memory[at..at + 9].copy_from_slice(&self.state);

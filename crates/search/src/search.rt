@@ -61,13 +61,12 @@ impl<'a> Search<'a> {
     pub(crate) fn machine(&self) -> Machine
         ensures { the_held result ≡ loaded (the_memory self.now) }
     {
-        let memory = &self.memory[..];
         Machine {
-            status: memory[0].into(),
-            budget: memory[1].min(LIMIT),
-            short: memory[2].min(FAR),
-            depth: (memory[3] as usize).min(MOST_PARTS),
-            frames: array::from_fn(|i| Frame::at(memory, HEAD + FRAME * i)),
+            status: self.memory[0].into(),
+            budget: self.memory[1].min(LIMIT),
+            short: self.memory[2].min(FAR),
+            depth: (self.memory[3] as usize).min(MOST_PARTS),
+            frames: array::from_fn(|i| Frame::at(self.memory, HEAD + FRAME * i)),
         }
     }
 
