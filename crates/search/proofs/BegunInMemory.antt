@@ -26,12 +26,12 @@ behind_long m h = let l = length-drop 92 m in length-take-le 109866 (drop 92 m) 
 problem_long : (es : List Example) (m : List ℕ) → small_examples es ≡ true → length m ≡ memory_size → length (laid_problem es [] (take 109866 (drop 92 m))) ≡ 109866
 problem_long es m s h = laid_long es (small_few es s) (small_short es s) (take 109866 (drop 92 m)) (behind_long m h) []
 
-pub problem_laid : (es : List Example) (m laid : List ℕ) (asked : List (List ℕ)) → small_examples es ≡ true → length m ≡ memory_size → asked ≡ [] →
-    laid ≡ laid_problem es asked (take 109866 (drop 92 m)) → put_mid 92 109866 m laid ≡ with_problem es m
-problem_laid es m laid asked s h a e =
+pub problem_laid : (es : List Example) (m laid : List ℕ) → small_examples es ≡ true → length m ≡ memory_size →
+    laid ≡ laid_problem es [] (take 109866 (drop 92 m)) → put_mid 92 109866 m laid ≡ with_problem es m
+problem_laid es m laid s h e =
     let long = problem_long es m s h in
     ap (λ n. put_mid 92 n m laid) (let k : 109866 ≡ 92 + length (laid_problem es [] (take 109866 (drop 92 m))) - 92 = omega arith in k)
-    ∙ copied_is m laid (laid_problem es [] (take 109866 (drop 92 m))) 92 (e ∙ ap (λ t. laid_problem es t (take 109866 (drop 92 m))) a)
+    ∙ copied_is m laid (laid_problem es [] (take 109866 (drop 92 m))) 92 e
 
 pub machine_begins : (es : List Example) (m with_it after : List ℕ) (x y : Held) (v : View) → with_it ≡ with_problem es m → x ≡ loaded with_it → v ≡ problem_in with_it → y ≡ held_begun v x.frames →
     after ≡ stored y with_it → after ≡ begun_in es m

@@ -1,8 +1,9 @@
 -- Frames as they lie in memory: read where they were laid down, and laid down one behind the other.
-use Rattle.std.proofs.Common.{◌≡◌, ℕ, suc, ◌+◌, ◌-◌, ◌*◌, ◌<◌, ◌≤◌, Bool, true, eqb, List, [], ◌∷◌, ◌++◌, length, get_or, take, drop, sym, refl, ap, ◌∙◌, ap₂, append_assoc, append-nil, arith, length-append}
+use Rattle.std.proofs.Common.{◌≡◌, ℕ, suc, ◌+◌, ◌-◌, ◌*◌, ◌<◌, ◌≤◌, Bool, true, eqb, List, [], ◌∷◌, ◌++◌, length, get_or, take, drop, sym, refl, map, ap, ◌∙◌, ap₂, append_assoc, append-nil, arith, length-append}
 use borrow.Rule.Slice.PartMut.{put_mid}
 use Rattle.std.proofs.lemmas.List.{drop-drop, take_at, drop_at, get_or-drop, take_more, take_all}
 use Rattle.std.proofs.lemmas.Bool.{and_parts, eqb-true}
+use Rattle.std.specs.List.{range_with_len}
 use Rattle.rules.specs.Lists.{flat, every}
 use Rattle.rules.specs.Answers.{written}
 use Rattle.rules.proofs.WrittenBytes.{copied_is, written_none, written_next}
@@ -24,18 +25,13 @@ flat_more fs i f h e =
     sym (ap (flat frame_numbers) (take_more fs i f h) ∙ flat_append frame_numbers (take i fs) (get_or fs i f ∷ []) ∙ ap (λ z. flat frame_numbers (take i fs) ++ flat frame_numbers (z ∷ [])) (sym e)
     ∙ ap (λ l. flat frame_numbers (take i fs) ++ l) (append-nil (frame_numbers f)))
 
-pub frame_is : (m s : List ℕ) (at left index : ℕ) → s ≡ take (at + 9 - at) (drop at m) → left ≡ get_or m (at + 9) 0 → index ≡ get_or m (at + 10) 0 → record { state = s; left = left; index = index } ≡ frame_from (drop at m)
-frame_is m s at left index e l i =
-    ap (λ z. record { state = z; left = left; index = index }) (e ∙ ap (λ n. take n (drop at m)) (let k : at + 9 - at ≡ 9 = omega arith in k))
-    ∙ ap₂ (λ x y. record { state = take 9 (drop at m); left = x; index = y }) (l ∙ sym (get_or-drop at m 9 0)) (i ∙ sym (get_or-drop at m 10 0))
-
 -- one frame, and those 11 numbers further on
 next_frame : (m : List ℕ) (k at : ℕ) (fs : List Frame) → fs ≡ frames_from k (drop (at + 11) m) → frame_from (drop at m) ∷ fs ≡ frames_from (suc k) (drop at m)
 unfolding frames_from
 next_frame m k at fs e = ap (λ l. frame_from (drop at m) ∷ l) (e ∙ ap (frames_from k) (sym (drop-drop 11 at m)))
 
 -- eight frames
-pub frames_are : (m : List ℕ) → frame_from (drop 4 m) ∷ frame_from (drop 15 m) ∷ frame_from (drop 26 m) ∷ frame_from (drop 37 m) ∷ frame_from (drop 48 m) ∷ frame_from (drop 59 m) ∷ frame_from (drop 70 m) ∷ frame_from (drop 81 m) ∷ [] ≡ frames_from 8 (drop 4 m)
+pub frames_are : (m : List ℕ) → map (λ i. frame_from (drop (4 + 11 * i) m)) (range_with_len 0 8) ≡ frames_from 8 (drop 4 m)
 frames_are m =
     next_frame m 7 4 _ (next_frame m 6 15 _ (next_frame m 5 26 _ (next_frame m 4 37 _ (next_frame m 3 48 _ (next_frame m 2 59 _ (next_frame m 1 70 _ (next_frame m 0 81 [] no_frames)))))))
   where

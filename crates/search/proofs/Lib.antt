@@ -6,6 +6,7 @@ pub mod MachineMeans
 pub mod MachineRight
 pub mod MachineEnds
 pub mod SearchRight
+pub mod ArraysMade
 pub mod FramesInMemory
 pub mod ExamplesSound
 pub mod StackOfFrames

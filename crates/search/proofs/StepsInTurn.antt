@@ -8,9 +8,9 @@ module _ (v : View) where
   unfolding held_steps
   steps_none x = refl
 
-  pub steps_more : (n : ℕ) (x y z : Held) → y ≡ held_steps v n x → z ≡ held_step v y → z ≡ held_steps v (n + 1) x
+  pub steps_more : (n : ℕ) (x : Held) → held_step v (held_steps v n x) ≡ held_steps v (n + 1) x
   unfolding held_steps
-  steps_more n x y z e f = f ∙ ap (held_step v) e ∙ ap (λ k. held_steps v k x) (sym (add-one n))
+  steps_more n x = ap (λ k. held_steps v k x) (sym (add-one n))
 
   pub steps_add : (m n : ℕ) (x : Held) → held_steps v m (held_steps v n x) ≡ held_steps v (m + n) x
   unfolding held_steps

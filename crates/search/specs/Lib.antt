@@ -6,6 +6,7 @@ pub mod Steps
 pub mod ByExamples
 pub mod Memory
 pub mod Holds
+pub mod Searched
 pub mod Spelled
 pub mod HeldPromises
 pub mod Refusals

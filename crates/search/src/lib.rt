@@ -9,21 +9,18 @@ mod pieces;
 mod progress;
 mod promises;
 mod refusal;
+mod search;
 mod spelled;
 mod start;
 mod status;
 mod step;
 mod whole;
 
-pub use memory::MEMORY;
-pub use pieces::{advance, advance_by};
-pub use progress::{Progress, standing};
+pub use progress::Progress;
 pub use promises::{
     an_ended_search_stays, nothing_wrong_is_said, the_first_rule_is_found, the_rule_is_spelled,
     the_search_ends_right, the_search_is_never_wrong,
 };
 pub use refusal::Refusal;
-pub use spelled::spell;
-pub use start::begin;
+pub use search::{MEMORY, Search};
 pub use status::Status;
-pub use whole::find;

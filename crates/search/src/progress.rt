@@ -1,13 +1,12 @@
-// Where a search in memory stands.
-ghost use Rattle.std.specs.Prelude.{◌≡◌, length};
-ghost use Rattle.search.specs.Memory.{memory_size, loaded, problem_in};
+// Where a search stands.
+ghost use Rattle.search.specs.Memory.{loaded, problem_in};
 ghost use Rattle.search.specs.Progress.{Stands};
+ghost use Rattle.search.specs.Searched.{the_memory};
 
-use crate::machine::Machine;
-use crate::pieces::problem_in;
+use crate::search::Search;
 use crate::status::Status;
 
-#[derive(Clone, Copy)]
+#[derive(Clone, Copy, PartialEq, Eq, Debug)]
 pub struct Progress {
     pub status: Status,
     // What the round may spend: 16 for each unit of cost, and 1 for each part.
@@ -18,16 +17,17 @@ pub struct Progress {
     pub rows: usize,
 }
 
-// Where the search stands.
-pub fn standing(memory: &[u64]) -> Progress
-    requires { length memory.now ≡ memory_size }
-    ensures { Stands (loaded memory.now) (problem_in memory.now).rows result }
-{
-    let machine = Machine::load(memory);
-    Progress {
-        status: machine.status,
-        budget: machine.budget,
-        frames: machine.depth,
-        rows: problem_in(memory).row_count(),
+impl Search<'_> {
+    // Where the search stands.
+    pub fn standing(&self) -> Progress
+        ensures { Stands (loaded (the_memory self.now)) (problem_in (the_memory self.now)).rows result }
+    {
+        let machine = self.machine();
+        Progress {
+            status: machine.status,
+            budget: machine.budget,
+            frames: machine.depth,
+            rows: self.problem().row_count(),
+        }
     }
 }

@@ -1,7 +1,7 @@
 // What is wrong with examples that a search can't be begun on.
-ghost use Rattle.std.specs.Prelude.{◌≡◌, true, None};
-ghost use Rattle.candidates.specs.Rows.{small_examples};
+ghost use Rattle.std.specs.Prelude.{◌≡◌};
 ghost use Rattle.candidates.specs.Values.{the_examples};
+ghost use Rattle.search.specs.Begun.{told_by};
 ghost use Rattle.search.specs.Refusals.{refusal_of};
 
 use candidates::{Example, are_small};
@@ -14,16 +14,15 @@ pub enum Refusal {
     TooLong,
 }
 
-// What is wrong with examples, if anything.
-pub(crate) fn examples_refusal(examples: &[Example]) -> Option<Refusal>
-    ensures value { result ≡ refusal_of (the_examples examples.now) }
-    ensures right { result ≡ None → small_examples (the_examples examples.now) ≡ true }
+// What is wrong with the examples, if anything is.
+pub(crate) fn check_examples(examples: &[Example]) -> Result<(), Refusal>
+    ensures { result ≡ told_by (refusal_of (the_examples examples.now)) }
 {
     if are_small(examples) {
-        None
+        Ok(())
     } else if examples.len() > 8 {
-        Some(Refusal::TooMany)
+        Err(Refusal::TooMany)
     } else {
-        Some(Refusal::TooLong)
+        Err(Refusal::TooLong)
     }
 }

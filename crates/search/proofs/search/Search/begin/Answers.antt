@@ -1,0 +1,8 @@
+-- Where nothing is refused, the problem is laid down behind the machine, which then begins.
+use Rattle.search.proofs.BegunInMemory.{machine_begins}
+use Rattle.search.proofs.RefusalsTold.{begun_left}
+use Rattle.search.proofs.search.Search.begin.Goals as goal
+
+pub returns-clause-memory : goal.returns-clause-memory
+returns-clause-memory c =
+    begun_left _ _ _ _ _ c.in_ok-check_examples.ensures (machine_begins _ _ _ _ _ _ _ c.lay.ensures.memory c.machine-machine.ensures c.problem.ensures c.begin.ensures c.keep.ensures.memory)

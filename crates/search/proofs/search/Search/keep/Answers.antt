@@ -1,0 +1,17 @@
+-- The four numbers of the head, and behind them the frames one by one.
+use Rattle.std.proofs.Common.{◌≡◌, ◌<◌, length, drop, arith, length-append, length-drop, rules}
+use Rattle.std.proofs.lemmas.List.{get_or_default}
+use Rattle.search.specs.Searched.{the_memory}
+use Rattle.search.proofs.FramesInMemory.{frames_more}
+use Rattle.search.proofs.search.Search.keep.Goals as goal
+
+pub loop-i-preserved : goal.loop-i-preserved
+loop-i-preserved c =
+    let eight : length c.args.machine.now.frames ≡ 8 = search rules in
+    let below : c.loop-i.i < 8 = c.loop-i-test.true in
+    let long = length-append c.copy_from_slice.new.self (drop 4 (the_memory c.args.self.now)) in
+    let rest = length-drop 4 (the_memory c.args.self.now) in
+    record {
+      same_reference = c.loop-i.invariant.same_reference;
+      laid = frames_more _ _ _ c.args.machine.now.frames c.loop-i.i _ c.loop-i.invariant.laid c.put.ensures.laid c.put.ensures.nine (omega arith) (omega arith) (get_or_default c.args.machine.now.frames c.loop-i.i _ _ (omega arith));
+    }

@@ -1,0 +1,12 @@
+-- What contracts see of a search in memory. Assumes nothing: these are definitions.
+use Rattle.std.specs.Prelude.{ℕ, List}
+use denote.Ref.{MutBor}
+use Rattle.search.specs.declared.search.Search.{Search}
+
+-- the memory as it was lent
+abbrev pub lent : Search → MutBor (List ℕ)
+lent s = s.memory
+
+-- the numbers that are in it
+abbrev pub the_memory : Search → List ℕ
+the_memory s = s.memory.now

@@ -1,0 +1,89 @@
+// A search in memory that is lent to it: the machine in front, and behind it the problem.
+ghost use Rattle.std.specs.Prelude.{◌≡◌, true, length};
+ghost use Rattle.search.specs.Memory.{memory_size};
+
+use crate::frame::Frame;
+use crate::machine::{FAR, LIMIT, MOST_PARTS, Machine};
+use crate::memory::FRAME;
+use candidates::{Example, Problem, lay};
+use std::array;
+
+// How far the search has come, the budget, the shortfall, and how many frames are in use.
+const HEAD: usize = 4;
+
+// Behind the frames lies the problem.
+const PROBLEM: usize = HEAD + MOST_PARTS * FRAME;
+
+// So many numbers of memory a search takes.
+pub const MEMORY: usize = 109958;
+
+#[derive(Drop)]
+pub struct Search<'a> {
+    memory: &'a mut [u64],
+    ghost size: { length memory.now ≡ memory_size },
+}
+
+impl<'a> Search<'a> {
+    ghost use Rattle.candidates.specs.Rows.{small_examples};
+    ghost use Rattle.candidates.specs.Values.{the_examples};
+    ghost use Rattle.candidates.specs.Viewed.{the_view};
+    ghost use Rattle.search.specs.Begun.{with_problem};
+    ghost use Rattle.search.specs.Holds.{the_held};
+    ghost use Rattle.search.specs.Memory.{loaded, stored, problem_in};
+    ghost use Rattle.search.specs.Searched.{lent, the_memory};
+
+    // The search that lies in this memory, or is to be begun there.
+    pub fn over(memory: &'a mut [u64]) -> Search<'a>
+        requires { length memory.old ≡ memory_size }
+        ensures same_reference { (lent result).ghost_name ≡ memory.entry.ghost_name }
+        ensures memory { the_memory result ≡ memory.old }
+    {
+        Search { memory }
+    }
+
+    // The problem, as it lies in memory.
+    pub(crate) fn problem(&self) -> Problem<'_>
+        ensures { the_view result ≡ problem_in (the_memory self.now) }
+    {
+        Problem::of(&self.memory[PROBLEM..MEMORY])
+    }
+
+    // Lays down the problem of the examples.
+    pub(crate) fn lay(&mut self, examples: &[Example])
+        requires { small_examples (the_examples examples.now) ≡ true }
+        ensures same_reference { (lent self.new).ghost_name ≡ (lent self.old).ghost_name }
+        ensures memory { the_memory self.new ≡ with_problem (the_examples examples.now) (the_memory self.old) }
+    {
+        lay(&mut self.memory[PROBLEM..MEMORY], examples, None);
+    }
+
+    // The machine, as it lies in memory; numbers that no search leaves there are cut down to those that one can.
+    pub(crate) fn machine(&self) -> Machine
+        ensures { the_held result ≡ loaded (the_memory self.now) }
+    {
+        Machine {
+            status: self.memory[0].into(),
+            budget: self.memory[1].min(LIMIT),
+            short: self.memory[2].min(FAR),
+            depth: (self.memory[3] as usize).min(MOST_PARTS),
+            frames: array::from_fn(|i| Frame::at(self.memory, HEAD + FRAME * i)),
+        }
+    }
+
+    // Lays the machine down.
+    pub(crate) fn keep(&mut self, machine: &Machine)
+        ensures same_reference { (lent self.new).ghost_name ≡ (lent self.old).ghost_name }
+        ensures memory { the_memory self.new ≡ stored (the_held machine.now) (the_memory self.old) }
+    {
+        let head = [
+            machine.status.into(),
+            machine.budget,
+            machine.short,
+            machine.depth as u64,
+        ];
+        self.memory[..HEAD].copy_from_slice(&head);
+        for (i, frame) in machine.frames.iter().enumerate() {
+            frame.put(self.memory, HEAD + FRAME * i);
+        }
+    }
+}
