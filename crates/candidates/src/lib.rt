@@ -1,6 +1,7 @@
 // What can matter in a search for some examples: places by where they lie, the candidate parts at a state, and a lower bound of what is still needed.
 #![tactic(auto)]
 
+mod add;
 mod candidate;
 mod choose;
 mod example;
@@ -11,6 +12,7 @@ mod look;
 mod position;
 mod problem;
 mod promises;
+mod question;
 mod row;
 mod same;
 mod small;
