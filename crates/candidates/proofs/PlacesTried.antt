@@ -12,7 +12,7 @@ use Rattle.candidates.specs.declared.table.Table as declared
 use Rattle.candidates.specs.Places.{both_ways, places_between, places_behind, places_in, kinds_in}
 use Rattle.candidates.specs.RowTable.{Table, all_tried, first_given, table_for}
 use Rattle.candidates.specs.Tables.{the_table, all_tried_for}
-use Rattle.candidates.specs.Values.{the_examples, the_asked}
+use Rattle.candidates.specs.Values.{examples_of, asked_of}
 use Rattle.candidates.specs.Weights.{smaller}
 use Rattle.candidates.proofs.KindsCollected.{zero_is}
 use Rattle.candidates.proofs.RowAdded.{table}
@@ -71,6 +71,6 @@ all_places q t ks start counted then k e f =
     (f ∙ ap (λ x. all_tried_for q counted (flat (λ l. places_behind t x l) x)) k)
     (sym (append_assoc (each (λ n. from_first n) (up_to 65)) (each (λ n. from_last n) (up_to 65)) (flat (λ l. places_behind t (kinds_in t) l) (kinds_in t))))
 
-pub table_laid : (q : Question) (numbers : List ℕ) (then : Table) → then ≡ all_tried_for q (table numbers 0) (places_in (first_given (the_examples q.examples.now))) → then ≡ table_for (the_examples q.examples.now) (the_asked q.asked) numbers
+pub table_laid : (q : Question) (numbers : List ℕ) (then : Table) → then ≡ all_tried_for q (table numbers 0) (places_in (first_given (examples_of q))) → then ≡ table_for (examples_of q) (asked_of q) numbers
 unfolding table_for
 table_laid q numbers then e = e

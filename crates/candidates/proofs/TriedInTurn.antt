@@ -11,17 +11,17 @@ use Rattle.candidates.specs.declared.table.Table as declared
 use Rattle.candidates.specs.Rows.{lies_in_all}
 use Rattle.candidates.specs.RowTable.{Table, row_of, added, tried, all_tried}
 use Rattle.candidates.specs.Tables.{the_table, tried_for, all_tried_for}
-use Rattle.candidates.specs.Values.{the_examples, the_asked}
+use Rattle.candidates.specs.Values.{examples_of, asked_of}
 use Rattle.candidates.proofs.TableRows.{flat_append}
 
 module _ (q : Question) where
-  pub tried_there : (t : Table) (p : Place) (x : List ℕ) → lies_in_all (the_examples q.examples.now) p ≡ true → x ≡ row_of (the_examples q.examples.now) (the_asked q.asked) p → added t x ≡ tried_for q t p
+  pub tried_there : (t : Table) (p : Place) (x : List ℕ) → lies_in_all (examples_of q) p ≡ true → x ≡ row_of (examples_of q) (asked_of q) p → added t x ≡ tried_for q t p
   unfolding tried
-  tried_there t p x h e = ap (added t) e ∙ sym (ap (λ b. pick b (added t (row_of (the_examples q.examples.now) (the_asked q.asked) p)) t) h)
+  tried_there t p x h e = ap (added t) e ∙ sym (ap (λ b. pick b (added t (row_of (examples_of q) (asked_of q) p)) t) h)
 
-  pub tried_missing : (t : Table) (p : Place) → lies_in_all (the_examples q.examples.now) p ≡ false → t ≡ tried_for q t p
+  pub tried_missing : (t : Table) (p : Place) → lies_in_all (examples_of q) p ≡ false → t ≡ tried_for q t p
   unfolding tried
-  tried_missing t p h = sym (ap (λ b. pick b (added t (row_of (the_examples q.examples.now) (the_asked q.asked) p)) t) h)
+  tried_missing t p h = sym (ap (λ b. pick b (added t (row_of (examples_of q) (asked_of q) p)) t) h)
 
   all_tried_append : (t : Table) (ps qs : List Place) → all_tried_for q t (ps ++ qs) ≡ all_tried_for q (all_tried_for q t ps) qs
   unfolding all_tried

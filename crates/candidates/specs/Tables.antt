@@ -4,7 +4,7 @@ use Rattle.rules.specs.Places.{Place}
 use Rattle.candidates.specs.declared.question.Question.{Question}
 use Rattle.candidates.specs.declared.table.Table as declared
 use Rattle.candidates.specs.RowTable.{Table, alike_at, tried, all_tried}
-use Rattle.candidates.specs.Values.{the_examples, the_asked}
+use Rattle.candidates.specs.Values.{examples_of, asked_of}
 
 abbrev pub the_table : declared.Table → Table
 the_table t = record { numbers = t.numbers.now; rows = t.rows }
@@ -15,8 +15,8 @@ IsFirstAlike t x r = MatchOption r (alike_at t.numbers x 0 t.rows ≡ t.rows) (�
 
 -- a place tried for the examples and the text asked about
 abbrev pub tried_for : Question → Table → Place → Table
-tried_for q t p = tried (the_examples q.examples.now) (the_asked q.asked) t p
+tried_for q t p = tried (examples_of q) (asked_of q) t p
 
 -- and one place after the other
 abbrev pub all_tried_for : Question → Table → List Place → Table
-all_tried_for q t ps = all_tried (the_examples q.examples.now) (the_asked q.asked) t ps
+all_tried_for q t ps = all_tried (examples_of q) (asked_of q) t ps

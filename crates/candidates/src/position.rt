@@ -1,10 +1,10 @@
 // Where a place lies in each of the texts.
-ghost use Rattle.std.specs.Prelude.{◌≡◌, true, false, MatchOption};
+ghost use Rattle.std.specs.Prelude.{◌≡◌};
 ghost use Rattle.rules.specs.Values.{the_place};
 ghost use Rattle.candidates.specs.Positions.{positions_in};
 ghost use Rattle.candidates.specs.RowTable.{asked_position, first_given};
-ghost use Rattle.candidates.specs.Rows.{lies_in_all};
-ghost use Rattle.candidates.specs.Values.{the_examples, the_asked};
+ghost use Rattle.candidates.specs.Rows.{IfThere};
+ghost use Rattle.candidates.specs.Values.{examples_of, asked_of};
 
 use crate::question::Question;
 use rules::Place;
@@ -15,7 +15,7 @@ const MISSING: u64 = 255;
 impl<'a> Question<'a> {
     // Where a place lies in each given text, if it is there in all; 0 past the last example.
     pub(crate) fn positions(self, place: Place) -> Option<[u64; 8]>
-        ensures { MatchOption result (lies_in_all (the_examples self.entry.examples.now) (the_place place) ≡ false) (λ at. (lies_in_all (the_examples self.entry.examples.now) (the_place place) ≡ true) × (at ≡ positions_in (the_examples self.entry.examples.now) 8 (the_place place))) }
+        ensures { IfThere (examples_of self.entry) (the_place place) result (positions_in (examples_of self.entry) 8 (the_place place)) }
     {
         let mut at = [0u64; 8];
         for (e, example) in self.examples.iter().enumerate() {
@@ -26,7 +26,7 @@ impl<'a> Question<'a> {
 
     // Where it lies in the text that is asked about; 0 if there is none.
     pub(crate) fn asked_position(self, place: Place) -> u64
-        ensures { result ≡ asked_position (the_asked self.entry.asked) (the_place place) }
+        ensures { result ≡ asked_position (asked_of self.entry) (the_place place) }
     {
         match self.asked {
             Some(text) => place.spot(text).map_or(MISSING, |at| at as u64),
@@ -36,7 +36,7 @@ impl<'a> Question<'a> {
 
     // The given text of the first example.
     pub(crate) fn first_given(self) -> &'a [u8]
-        ensures { result.now ≡ first_given (the_examples self.entry.examples.now) }
+        ensures { result.now ≡ first_given (examples_of self.entry) }
     {
         match self.examples {
             [first, ..] => first.given,

@@ -1,9 +1,9 @@
 // A row of the table: the numbers that say a place, what it costs, and where it lies.
-ghost use Rattle.std.specs.Prelude.{◌≡◌, true, false, MatchOption};
+ghost use Rattle.std.specs.Prelude.{◌≡◌};
 ghost use Rattle.rules.specs.Values.{the_place};
 ghost use Rattle.candidates.specs.RowTable.{place_numbers, row_of, alike};
-ghost use Rattle.candidates.specs.Rows.{lies_in_all};
-ghost use Rattle.candidates.specs.Values.{the_examples, the_asked};
+ghost use Rattle.candidates.specs.Rows.{IfThere};
+ghost use Rattle.candidates.specs.Values.{examples_of, asked_of};
 
 use crate::question::Question;
 use rules::Place;
@@ -13,13 +13,14 @@ pub(crate) const ROW: usize = 16;
 
 pub(crate) const COST: usize = 5;
 
-pub(crate) const AT: usize = 6;
+const AT: usize = 6;
 
 const ASKED: usize = 14;
 
 pub(crate) type Row = [u64; ROW];
 
 // The five numbers that say a place.
+#[tactic(auto, unfolding(crate::specs::RowTable::place_numbers))]
 fn place_numbers(place: Place) -> [u64; COST]
     ensures { result ≡ place_numbers (the_place place) }
 {
@@ -43,7 +44,7 @@ fn place_numbers(place: Place) -> [u64; COST]
 
 // The row of a place, if that is there in every given text.
 pub(crate) fn row_of(place: Place, question: Question) -> Option<Row>
-    ensures { MatchOption result (lies_in_all (the_examples question.entry.examples.now) (the_place place) ≡ false) (λ row. (lies_in_all (the_examples question.entry.examples.now) (the_place place) ≡ true) × (row ≡ row_of (the_examples question.entry.examples.now) (the_asked question.entry.asked) (the_place place))) }
+    ensures { IfThere (examples_of question.entry) (the_place place) result (row_of (examples_of question.entry) (asked_of question.entry) (the_place place)) }
 {
     let at = question.positions(place)?;
     let mut row = [0; ROW];

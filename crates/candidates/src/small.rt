@@ -5,6 +5,8 @@ ghost use Rattle.candidates.specs.Values.{the_example, the_examples};
 
 use crate::example::Example;
 
+const MOST_EXAMPLES: usize = 8;
+
 fn is_small_text(text: &[u8]) -> bool
     ensures { result ≡ small_text text.now }
 {
@@ -21,5 +23,5 @@ fn is_small(example: &Example) -> bool
 pub fn are_small(examples: &[Example]) -> bool
     ensures { result ≡ small_examples (the_examples examples.now) }
 {
-    examples.len() <= 8 && examples.iter().all(|example| is_small(example))
+    examples.len() <= MOST_EXAMPLES && examples.iter().all(|example| is_small(example))
 }

@@ -7,6 +7,11 @@ ghost use Rattle.candidates.specs.Values.{the_example, the_examples};
 
 use crate::example::Example;
 
+// An example's numbers, and where its texts begin among them, behind their two lengths.
+const EXAMPLE: usize = 130;
+const GIVEN: usize = 2;
+const WANTED: usize = 66;
+
 // Lays down a text from a position on.
 fn put_text(out: &mut [u64], at: usize, text: &[u8])
     requires room { at + length text.now ≤ length out.old }
@@ -24,10 +29,10 @@ fn put_example(out: &mut [u64], e: usize, example: &Example)
     requires short { short_example (the_example example.now) ≡ true }
     ensures { out.new ≡ with_example out.old e example.now.given.now example.now.wanted.now }
 {
-    out[130 * e] = example.given.len() as u64;
-    out[130 * e + 1] = example.wanted.len() as u64;
-    put_text(out, 130 * e + 2, example.given);
-    put_text(out, 130 * e + 66, example.wanted);
+    out[EXAMPLE * e] = example.given.len() as u64;
+    out[EXAMPLE * e + 1] = example.wanted.len() as u64;
+    put_text(out, EXAMPLE * e + GIVEN, example.given);
+    put_text(out, EXAMPLE * e + WANTED, example.wanted);
 }
 
 // Lays down the texts of all examples.

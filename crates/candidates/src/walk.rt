@@ -6,7 +6,7 @@ ghost use Rattle.rules.specs.Values.{the_place, kind_number};
 ghost use Rattle.candidates.specs.Places.{both_ways, places_between, places_behind, places_in};
 ghost use Rattle.candidates.specs.RowTable.{first_given, table_for, table_size, most_rows};
 ghost use Rattle.candidates.specs.Tables.{the_table, tried_for, all_tried_for};
-ghost use Rattle.candidates.specs.Values.{the_examples, the_asked};
+ghost use Rattle.candidates.specs.Values.{examples_of, asked_of};
 ghost use Rattle.candidates.specs.Weights.{smaller};
 
 use crate::kinds::kinds_in;
@@ -50,7 +50,7 @@ impl<'a> Table<'a> {
     // Tries the places between two kinds that are there in the first given text.
     fn try_between(&mut self, question: Question, left: Kind, right: Kind)
         ensures same_reference { self.new.numbers.ghost_name ≡ self.old.numbers.ghost_name }
-        ensures tried { the_table self.new ≡ all_tried_for question.entry (the_table self.old) (places_between (first_given (the_examples question.entry.examples.now)) (kind_number left) (kind_number right)) }
+        ensures tried { the_table self.new ≡ all_tried_for question.entry (the_table self.old) (places_between (first_given (examples_of question.entry)) (kind_number left) (kind_number right)) }
     {
         if left == Kind::Anything && right == Kind::Anything {
             return;
@@ -71,7 +71,7 @@ impl<'a> Table<'a> {
     // Tries the places between any two of the kinds.
     fn try_kinds(&mut self, question: Question, kinds: &[Kind])
         ensures same_reference { self.new.numbers.ghost_name ≡ self.old.numbers.ghost_name }
-        ensures tried { the_table self.new ≡ all_tried_for question.entry (the_table self.old) (flat (λ l. places_behind (first_given (the_examples question.entry.examples.now)) (each kind_number kinds.now) l) (each kind_number kinds.now)) }
+        ensures tried { the_table self.new ≡ all_tried_for question.entry (the_table self.old) (flat (λ l. places_behind (first_given (examples_of question.entry)) (each kind_number kinds.now) l) (each kind_number kinds.now)) }
     {
         for left in kinds {
             for right in kinds {
@@ -83,7 +83,7 @@ impl<'a> Table<'a> {
     // Tries all places that are there in the first given text.
     pub(crate) fn fill(&mut self, question: Question)
         ensures same_reference { self.new.numbers.ghost_name ≡ self.old.numbers.ghost_name }
-        ensures filled { the_table self.new ≡ all_tried_for question.entry (the_table self.old) (places_in (first_given (the_examples question.entry.examples.now))) }
+        ensures filled { the_table self.new ≡ all_tried_for question.entry (the_table self.old) (places_in (first_given (examples_of question.entry))) }
     {
         let kinds = kinds_in(question.first_given());
         self.try_counted(question);
@@ -92,9 +92,10 @@ impl<'a> Table<'a> {
 }
 
 // Lays down the rows for a question, and says how many there are.
+#[tactic(auto, unfolding(crate::specs::RowTable::table_for))]
 pub(crate) fn lay_rows(numbers: &mut [u64], question: Question) -> usize
     requires size { length numbers.old ≡ table_size }
-    ensures table { record { numbers = numbers.new; rows = result } ≡ table_for (the_examples question.entry.examples.now) (the_asked question.entry.asked) numbers.old }
+    ensures table { record { numbers = numbers.new; rows = result } ≡ table_for (examples_of question.entry) (asked_of question.entry) numbers.old }
     ensures bound { result ≤ most_rows }
 {
     let mut table = Table::of(numbers);
