@@ -1,5 +1,5 @@
 -- The steps of the walk through the places of a text try the places that the definitions list.
-use Rattle.std.proofs.Common.{◌≡◌, ℕ, zero, suc, ◌+◌, ◌<◌, ◌≤◌, Bool, true, false, List, [], ◌∷◌, ◌++◌, length, get_or, take, sym, ap, ◌∙◌, ap₂, append_assoc, append-nil, arith}
+use Rattle.std.proofs.Common.{◌≡◌, ℕ, zero, suc, ◌+◌, ◌<◌, ◌≤◌, Bool, true, false, List, [], ◌∷◌, ◌++◌, length, get_or, take, sym, refl, ap, ◌∙◌, ap₂, append_assoc, append-nil, arith}
 use Rattle.std.proofs.lemmas.List.{take_all}
 use Rattle.std.proofs.lemmas.Bool.{ne_eqb}
 use Rattle.rules.specs.declared.kind.Kind.{Kind}
@@ -9,14 +9,12 @@ use Rattle.rules.specs.Places.{Place, from_first, from_last, nth_of, all_of}
 use Rattle.rules.specs.Values.{kind_number}
 use Rattle.candidates.specs.declared.question.Question.{Question}
 use Rattle.candidates.specs.declared.table.Table as declared
-use Rattle.candidates.specs.Places.{both_ways, places_between, places_behind, places_in, kinds_in}
-use Rattle.candidates.specs.RowTable.{Table, all_tried, first_given, table_for}
-use Rattle.candidates.specs.Tables.{the_table, all_tried_for}
-use Rattle.candidates.specs.Values.{examples_of, asked_of}
+use Rattle.candidates.specs.Places.{both_ways, places_between, places_behind, places_among, counted, places_in, kinds_in}
+use Rattle.candidates.specs.RowTable.{Table}
+use Rattle.candidates.specs.Tables.{the_table, Becomes, all_tried_for, first_of}
 use Rattle.candidates.specs.Weights.{smaller}
 use Rattle.candidates.proofs.KindsCollected.{zero_is}
-use Rattle.candidates.proofs.RowAdded.{table}
-use Rattle.candidates.proofs.TriedInTurn.{tried_then, tried_more, tried_same, Tried, of_kinds, kinds_next, kinds_end}
+use Rattle.candidates.proofs.TriedInTurn.{tried_more, tried_same, tried_end, Tried, of_kinds, kinds_next, kinds_end}
 
 -- both are anything, or not
 pub between_nothing : (t : List ℕ) (l r : Kind) → l ≡ Anything → r ≡ Anything → [] ≡ places_between t (kind_number l) (kind_number r)
@@ -50,10 +48,10 @@ module _ (t : List ℕ) (ks : List Kind) where
   rights l j = of_kinds (λ r. places_between t (kind_number l) r) j ks
 
   module _ (q : Question) (start : declared.Table) where
-    pub right_on : (i j : ℕ) (l d : Kind) (now then : declared.Table) → Tried q start (lefts i ++ rights l j) now → j < length ks → the_table then ≡ all_tried_for q (the_table now) (places_between t (kind_number l) (kind_number (get_or ks j d)))
-        → then.numbers.ghost_name ≡ now.numbers.ghost_name → Tried q start (lefts i ++ rights l (j + 1)) then
-    right_on i j l d now then tried h e n =
-        tried_more q start now then (lefts i ++ rights l j) (places_between t (kind_number l) (kind_number (get_or ks j d))) (lefts i ++ rights l (j + 1)) tried e n
+    pub right_on : (i j : ℕ) (l d : Kind) (now then : declared.Table) → Tried q start (lefts i ++ rights l j) now → j < length ks
+        → Becomes now then (all_tried_for q (the_table now) (places_between t (kind_number l) (kind_number (get_or ks j d)))) → Tried q start (lefts i ++ rights l (j + 1)) then
+    right_on i j l d now then tried h b =
+        tried_more q start now then (lefts i ++ rights l j) (places_between t (kind_number l) (kind_number (get_or ks j d))) (lefts i ++ rights l (j + 1)) tried b
         (ap (λ x. lefts i ++ x) (kinds_next (λ r. places_between t (kind_number l) r) ks j d h) ∙ sym (append_assoc (lefts i) (rights l j) (places_between t (kind_number l) (kind_number (get_or ks j d)))))
 
     pub left_on : (i j : ℕ) (d : Kind) (now : declared.Table) → Tried q start (lefts i ++ rights (get_or ks i d) j) now → i < length ks → length ks ≤ j → Tried q start (lefts (i + 1)) now
@@ -63,14 +61,10 @@ module _ (t : List ℕ) (ks : List Kind) where
         (kinds_next (λ k. places_behind t (each kind_number ks) k) ks i d h ∙ ap (λ x. lefts i ++ x) (sym (kinds_end (λ r. places_between t (kind_number (get_or ks i d)) r) ks j k)))
 
 -- first those that are counted in bytes, then those between kinds
-pub all_places : (q : Question) (t ks : List ℕ) (start counted then : Table) → ks ≡ kinds_in t → counted ≡ all_tried_for q start (each (λ n. from_first n) (up_to 65) ++ each (λ n. from_last n) (up_to 65))
-    → then ≡ all_tried_for q counted (flat (λ l. places_behind t ks l) ks) → then ≡ all_tried_for q start (places_in t)
+pub all_places : (q : Question) (start first then : declared.Table) (t ks : List ℕ) → ks ≡ kinds_in t → Becomes start first (all_tried_for q (the_table start) counted)
+    → Becomes first then (all_tried_for q (the_table first) (places_among t ks)) → Becomes start then (all_tried_for q (the_table start) (places_in t))
 unfolding places_in
-all_places q t ks start counted then k e f =
-    tried_then q start counted then (each (λ n. from_first n) (up_to 65) ++ each (λ n. from_last n) (up_to 65)) (flat (λ l. places_behind t (kinds_in t) l) (kinds_in t)) _ e
-    (f ∙ ap (λ x. all_tried_for q counted (flat (λ l. places_behind t x l) x)) k)
-    (sym (append_assoc (each (λ n. from_first n) (up_to 65)) (each (λ n. from_last n) (up_to 65)) (flat (λ l. places_behind t (kinds_in t) l) (kinds_in t))))
-
-pub table_laid : (q : Question) (numbers : List ℕ) (then : Table) → then ≡ all_tried_for q (table numbers 0) (places_in (first_given (examples_of q))) → then ≡ table_for (examples_of q) (asked_of q) numbers
-unfolding table_for
-table_laid q numbers then e = e
+all_places q start first then t ks k b c =
+    let tried : Tried q start counted first = record { is = b.is; same_reference = b.same_reference } in
+    let all : counted ++ places_among t ks ≡ places_in t = append_assoc (each (λ n. from_first n) (up_to 65)) (each (λ n. from_last n) (up_to 65)) (places_among t ks) ∙ ap (λ x. each (λ n. from_first n) (up_to 65) ++ (each (λ n. from_last n) (up_to 65) ++ places_among t x)) k in
+    tried_end q start then (counted ++ places_among t ks) (places_in t) (tried_more q start first then counted (places_among t ks) (counted ++ places_among t ks) tried c refl) all

@@ -1,11 +1,20 @@
 -- Each way in which a row is added, or not, is as `added` says.
-use Rattle.std.proofs.Common.{◌≡◌, ℕ, ◌+◌, ◌-◌, ◌<◌, ◌≤◌, ltb, List, get_or, sym, ap, ◌∙◌, arith}
+use Rattle.std.proofs.Common.{◌≡◌, ℕ, ◌+◌, ◌-◌, ◌<◌, ◌≤◌, ltb, List, get_or, sym, refl, ap, ◌∙◌, arith}
 use Rattle.std.proofs.lemmas.Bool.{lt-ltb, le-ltb}
 use Rattle.rules.specs.Lists.{pick}
+use Rattle.candidates.specs.declared.table.Table as declared
+use Rattle.candidates.specs.Tables.{the_table, Becomes}
 use Rattle.candidates.specs.RowTable.{Table, row_number, with_row, alike_at, in_place_of, pushed, added, added_at, most_rows}
 
 abbrev pub table : List ℕ → ℕ → Table
 table t rows = record { numbers = t; rows = rows }
+
+-- a table that stays as it was, and one that became what another word says too
+pub becomes_still : (was : declared.Table) (t : Table) → the_table was ≡ t → Becomes was was t
+becomes_still was t e = record { same_reference = refl; is = e }
+
+pub becomes_as : (was now : declared.Table) (t u : Table) → Becomes was now t → t ≡ u → Becomes was now u
+becomes_as was now t u b e = record { same_reference = b.same_reference; is = b.is ∙ e }
 
 module _ (t : Table) (x : List ℕ) where
   module _ (i : ℕ) (e : alike_at t.numbers x 0 t.rows ≡ i) (h : i < t.rows) where

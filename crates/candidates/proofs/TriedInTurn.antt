@@ -10,11 +10,13 @@ use Rattle.candidates.specs.declared.question.Question.{Question}
 use Rattle.candidates.specs.declared.table.Table as declared
 use Rattle.candidates.specs.Rows.{lies_in_all}
 use Rattle.candidates.specs.RowTable.{Table, row_of, added, tried, all_tried}
-use Rattle.candidates.specs.Tables.{the_table, tried_for, all_tried_for}
+use Rattle.candidates.specs.Tables.{the_table, Becomes, tried_for, all_tried_for}
+use Rattle.candidates.proofs.RowAdded.{becomes_as}
 use Rattle.candidates.specs.Values.{examples_of, asked_of}
 use Rattle.candidates.proofs.TableRows.{flat_append}
 
 module _ (q : Question) where
+  -- a place is there in every given text, or missing in one
   pub tried_there : (t : Table) (p : Place) (x : List ℕ) → lies_in_all (examples_of q) p ≡ true → x ≡ row_of (examples_of q) (asked_of q) p → added t x ≡ tried_for q t p
   unfolding tried
   tried_there t p x h e = ap (added t) e ∙ sym (ap (λ b. pick b (added t (row_of (examples_of q) (asked_of q) p)) t) h)
@@ -52,12 +54,17 @@ module _ (q : Question) where
   pub tried_none : (t : declared.Table) → Tried t [] t
   tried_none t = record { is = tried_nothing (the_table t); same_reference = refl }
 
-  pub tried_more : (start now then : declared.Table) (ps qs all : List Place) → Tried start ps now → the_table then ≡ all_tried_for q (the_table now) qs → then.numbers.ghost_name ≡ now.numbers.ghost_name → all ≡ ps ++ qs → Tried start all then
-  tried_more start now then ps qs all t e n a =
-      record { is = tried_then (the_table start) (the_table now) (the_table then) ps qs all t.is e a; same_reference = n ∙ t.same_reference }
+  pub tried_more : (start now then : declared.Table) (ps qs all : List Place) → Tried start ps now → Becomes now then (all_tried_for q (the_table now) qs) → all ≡ ps ++ qs → Tried start all then
+  tried_more start now then ps qs all t b a =
+      record { is = tried_then (the_table start) (the_table now) (the_table then) ps qs all t.is b.is a; same_reference = b.same_reference ∙ t.same_reference }
 
-  pub tried_one : (start now then : declared.Table) (ps all : List Place) (p : Place) → Tried start ps now → the_table then ≡ tried_for q (the_table now) p → then.numbers.ghost_name ≡ now.numbers.ghost_name → all ≡ ps ++ p ∷ [] → Tried start all then
-  tried_one start now then ps all p t e n a = tried_more start now then ps (p ∷ []) all t (e ∙ all_tried_one (the_table now) p) n a
+  pub tried_one : (start now then : declared.Table) (ps all : List Place) (p : Place) → Tried start ps now → Becomes now then (tried_for q (the_table now) p) → all ≡ ps ++ p ∷ [] → Tried start all then
+  tried_one start now then ps all p t b a =
+      tried_more start now then ps (p ∷ []) all t (becomes_as now then _ _ b (all_tried_one (the_table now) p)) a
+
+  -- and no more are to be tried
+  pub tried_end : (start now : declared.Table) (ps all : List Place) → Tried start ps now → ps ≡ all → Becomes start now (all_tried_for q (the_table start) all)
+  tried_end start now ps all t e = record { is = t.is ∙ ap (all_tried_for q (the_table start)) e; same_reference = t.same_reference }
 
 -- LISTS THAT GROW
 pub each_next : (f : ℕ → Place) (n : ℕ) → each f (up_to (n + 1)) ≡ each f (up_to n) ++ f n ∷ []

@@ -2,7 +2,7 @@
 ghost use Rattle.std.specs.Prelude.{◌≡◌, ◌-◌, ◌<◌, ◌+◌, length};
 ghost use Rattle.std.specs.Simd.{first_chunks};
 ghost use Rattle.candidates.specs.RowTable.{with_row, in_place_of, added, table_size, most_rows};
-ghost use Rattle.candidates.specs.Tables.{the_table, IsFirstAlike};
+ghost use Rattle.candidates.specs.Tables.{the_table, Becomes, IsFirstAlike};
 
 use crate::row::{COST, ROW, Row, lie_alike};
 use crate::table::Table;
@@ -40,8 +40,7 @@ impl<'a> Table<'a> {
     // Replaces the numbers of row i.
     fn put(&mut self, i: usize, row: &Row)
         requires room { i < most_rows }
-        ensures same_reference { self.new.numbers.ghost_name ≡ self.old.numbers.ghost_name }
-        ensures put { the_table self.new ≡ record { numbers = with_row self.old.numbers.now i row.now; rows = self.old.rows } }
+        ensures { Becomes self.old self.new (record { numbers = with_row self.old.numbers.now i row.now; rows = self.old.rows }) }
     {
         self.numbers[ROW * i..ROW * (i + 1)].copy_from_slice(row);
     }
@@ -49,8 +48,7 @@ impl<'a> Table<'a> {
     // Takes row i out, and puts another one behind the others.
     fn put_in_place_of(&mut self, i: usize, row: &Row)
         requires row { i < self.old.rows }
-        ensures same_reference { self.new.numbers.ghost_name ≡ self.old.numbers.ghost_name }
-        ensures put { the_table self.new ≡ in_place_of (the_table self.old) i row.now }
+        ensures { Becomes self.old self.new (in_place_of (the_table self.old) i row.now) }
     {
         self.numbers
             .copy_within(ROW * (i + 1)..ROW * self.rows, ROW * i);
@@ -59,8 +57,7 @@ impl<'a> Table<'a> {
 
     // Adds a row: in place of one that lies like it if it is cheaper, and else behind the others if none lies like it.
     pub(crate) fn add(&mut self, row: &Row)
-        ensures same_reference { self.new.numbers.ghost_name ≡ self.old.numbers.ghost_name }
-        ensures added { the_table self.new ≡ added (the_table self.old) row.now }
+        ensures { Becomes self.old self.new (added (the_table self.old) row.now) }
     {
         if let Some(i) = self.first_alike(row) {
             if row[COST] < self.as_rows()[i][COST] {

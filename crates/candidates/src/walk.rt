@@ -1,11 +1,11 @@
 // A table is filled by a walk through the places that are there in the first given text, in the order of their spelling.
-ghost use Rattle.std.specs.Prelude.{◌≡◌, ◌<◌, ◌≤◌, ◌++◌, length};
-ghost use Rattle.rules.specs.Lists.{each, flat, up_to};
-ghost use Rattle.rules.specs.Places.{from_first, from_last, all_of};
+ghost use Rattle.std.specs.Prelude.{◌≡◌, ◌≤◌, length};
+ghost use Rattle.rules.specs.Lists.{each};
+ghost use Rattle.rules.specs.Places.{all_of};
 ghost use Rattle.rules.specs.Values.{the_place, kind_number};
-ghost use Rattle.candidates.specs.Places.{both_ways, places_between, places_behind, places_in};
-ghost use Rattle.candidates.specs.RowTable.{first_given, table_for, table_size, most_rows};
-ghost use Rattle.candidates.specs.Tables.{the_table, tried_for, all_tried_for};
+ghost use Rattle.candidates.specs.Places.{counted, places_between, places_among, places_in};
+ghost use Rattle.candidates.specs.RowTable.{table_for, table_size, most_rows};
+ghost use Rattle.candidates.specs.Tables.{the_table, Becomes, tried_for, all_tried_for, first_of};
 ghost use Rattle.candidates.specs.Values.{examples_of, asked_of};
 ghost use Rattle.candidates.specs.Weights.{smaller};
 
@@ -23,11 +23,10 @@ fn fits(text: &[u8], left: Kind, right: Kind) -> u8
     count_between(text, left, right).min(64) as u8
 }
 
-impl<'a> Table<'a> {
+impl Table<'_> {
     // Adds the row of a place, if that is there in every given text.
     fn try_place(&mut self, question: Question, place: Place)
-        ensures same_reference { self.new.numbers.ghost_name ≡ self.old.numbers.ghost_name }
-        ensures tried { the_table self.new ≡ tried_for question.entry (the_table self.old) (the_place place) }
+        ensures { Becomes self.old self.new (tried_for question.entry (the_table self.old) (the_place place)) }
     {
         if let Some(row) = row_of(place, question) {
             self.add(&row);
@@ -36,8 +35,7 @@ impl<'a> Table<'a> {
 
     // Tries the places that are counted in bytes, from the beginning and then from the end.
     fn try_counted(&mut self, question: Question)
-        ensures same_reference { self.new.numbers.ghost_name ≡ self.old.numbers.ghost_name }
-        ensures tried { the_table self.new ≡ all_tried_for question.entry (the_table self.old) (each (λ n. from_first n) (up_to 65) ++ each (λ n. from_last n) (up_to 65)) }
+        ensures { Becomes self.old self.new (all_tried_for question.entry (the_table self.old) counted) }
     {
         for n in 0..65 {
             self.try_place(question, Place::FromFirst(n));
@@ -49,8 +47,7 @@ impl<'a> Table<'a> {
 
     // Tries the places between two kinds that are there in the first given text.
     fn try_between(&mut self, question: Question, left: Kind, right: Kind)
-        ensures same_reference { self.new.numbers.ghost_name ≡ self.old.numbers.ghost_name }
-        ensures tried { the_table self.new ≡ all_tried_for question.entry (the_table self.old) (places_between (first_given (examples_of question.entry)) (kind_number left) (kind_number right)) }
+        ensures { Becomes self.old self.new (all_tried_for question.entry (the_table self.old) (places_between (first_of question.entry) (kind_number left) (kind_number right))) }
     {
         if left == Kind::Anything && right == Kind::Anything {
             return;
@@ -70,8 +67,7 @@ impl<'a> Table<'a> {
 
     // Tries the places between any two of the kinds.
     fn try_kinds(&mut self, question: Question, kinds: &[Kind])
-        ensures same_reference { self.new.numbers.ghost_name ≡ self.old.numbers.ghost_name }
-        ensures tried { the_table self.new ≡ all_tried_for question.entry (the_table self.old) (flat (λ l. places_behind (first_given (examples_of question.entry)) (each kind_number kinds.now) l) (each kind_number kinds.now)) }
+        ensures { Becomes self.old self.new (all_tried_for question.entry (the_table self.old) (places_among (first_of question.entry) (each kind_number kinds.now))) }
     {
         for left in kinds {
             for right in kinds {
@@ -82,8 +78,7 @@ impl<'a> Table<'a> {
 
     // Tries all places that are there in the first given text.
     pub(crate) fn fill(&mut self, question: Question)
-        ensures same_reference { self.new.numbers.ghost_name ≡ self.old.numbers.ghost_name }
-        ensures filled { the_table self.new ≡ all_tried_for question.entry (the_table self.old) (places_in (first_given (examples_of question.entry))) }
+        ensures { Becomes self.old self.new (all_tried_for question.entry (the_table self.old) (places_in (first_of question.entry))) }
     {
         let kinds = kinds_in(question.first_given());
         self.try_counted(question);

@@ -1,25 +1,26 @@
-use Rattle.std.proofs.Common.{◌≡◌, ◌+◌, get_or, [], ap, ◌∙◌, arith}
-use Rattle.candidates.specs.RowTable.{Table, row_number}
+use Rattle.std.proofs.Common.{◌+◌, [], ap, ◌∙◌, arith}
 use Rattle.candidates.specs.Tables.{the_table}
-use Rattle.candidates.proofs.RowAdded.{table, added_instead, added_dearer, added_behind, added_full}
+use Rattle.candidates.proofs.RowAdded.{table, becomes_still, becomes_as, added_instead, added_dearer, added_behind, added_full}
 use Rattle.candidates.proofs.RowsRead.{number_in}
 use Rattle.candidates.proofs.table.Table.add.Goals as goal
 
-pub returns-then-row-as_rows-clause-added : goal.returns-then-row-as_rows-clause-added
-returns-then-row-as_rows-clause-added c =
+pub returns-then-row-as_rows : goal.returns-then-row-as_rows
+returns-then-row-as_rows c =
     let found = c.in-Some.ensures in
     let costs = number_in c.args.self.now.numbers.now c.as_rows.result.now c.args.self.now.rows c.in-Some.i 5 [] c.as_rows.ensures.value found.1 (omega arith) in
-    c.put_in_place_of.ensures.put ∙ added_instead (the_table c.args.self.now) c.args.row.now c.in-Some.i found.0 found.1 (omega (arith, costs, c.if-row-as_rows.true))
+    becomes_as _ _ _ _ c.put_in_place_of.ensures (added_instead (the_table c.args.self.now) c.args.row.now c.in-Some.i found.0 found.1 (omega (arith, costs, c.if-row-as_rows.true)))
 
-pub returns-else-row-as_rows-clause-added : goal.returns-else-row-as_rows-clause-added
-returns-else-row-as_rows-clause-added c =
+pub returns-else-row-as_rows : goal.returns-else-row-as_rows
+returns-else-row-as_rows c =
     let found = c.in-Some.ensures in
     let costs = number_in c.args.self.now.numbers.now c.as_rows.result.now c.args.self.now.rows c.in-Some.i 5 [] c.as_rows.ensures.value found.1 (omega arith) in
-    added_dearer (the_table c.args.self.now) c.args.row.now c.in-Some.i found.0 found.1 (omega (arith, costs, c.if-row-as_rows.false))
+    becomes_still _ _ (added_dearer (the_table c.args.self.now) c.args.row.now c.in-Some.i found.0 found.1 (omega (arith, costs, c.if-row-as_rows.false)))
 
-pub returns-then-self-lt-MOST_ROWS-clause-added : goal.returns-then-self-lt-MOST_ROWS-clause-added
-returns-then-self-lt-MOST_ROWS-clause-added c =
-    ap (λ t. table t.numbers (t.rows + 1)) c.put.ensures.put ∙ added_behind (the_table c.args.self.now) c.args.row.now c.in_default.ensures c.if-self-lt-MOST_ROWS.true
+pub returns-then-self-lt-MOST_ROWS : goal.returns-then-self-lt-MOST_ROWS
+returns-then-self-lt-MOST_ROWS c = record {
+  same_reference = c.put.ensures.same_reference;
+  is = ap (λ t. table t.numbers (t.rows + 1)) c.put.ensures.is ∙ added_behind (the_table c.args.self.now) c.args.row.now c.in_default.ensures c.if-self-lt-MOST_ROWS.true;
+}
 
-pub returns-else-self-lt-MOST_ROWS-clause-added : goal.returns-else-self-lt-MOST_ROWS-clause-added
-returns-else-self-lt-MOST_ROWS-clause-added c = added_full (the_table c.args.self.now) c.args.row.now c.in_default.ensures c.if-self-lt-MOST_ROWS.false
+pub returns-else-self-lt-MOST_ROWS : goal.returns-else-self-lt-MOST_ROWS
+returns-else-self-lt-MOST_ROWS c = becomes_still _ _ (added_full (the_table c.args.self.now) c.args.row.now c.in_default.ensures c.if-self-lt-MOST_ROWS.false)

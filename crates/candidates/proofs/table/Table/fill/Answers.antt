@@ -2,11 +2,10 @@ use Rattle.std.proofs.Common.{ap, ◌∙◌}
 use Rattle.rules.specs.Lists.{each}
 use Rattle.rules.specs.Values.{kind_number}
 use Rattle.candidates.specs.Places.{kinds_in}
-use Rattle.candidates.specs.Tables.{the_table}
 use Rattle.candidates.proofs.PlacesTried.{all_places}
 use Rattle.candidates.proofs.table.Table.fill.Goals as goal
 
-pub returns-clause-filled : goal.returns-clause-filled
-returns-clause-filled c =
+pub returns : goal.returns
+returns c =
     let kinds = ap (each kind_number) c.as_slice.ensures ∙ c.kinds_in-kinds.ensures ∙ ap kinds_in c.first_given.ensures in
-    all_places c.args.question _ _ (the_table c.args.self.now) _ _ kinds c.try_counted.ensures.tried c.try_kinds.ensures.tried
+    all_places c.args.question _ _ _ _ _ kinds c.try_counted.ensures c.try_kinds.ensures

@@ -9,7 +9,7 @@ unfolding up_to
 loop-n-init c = tried_none _ _
 
 pub loop-n-preserved : goal.loop-n-preserved
-loop-n-preserved c = tried_one c.args.question _ _ _ _ _ _ c.loop-n.invariant c.try_place.ensures.tried c.try_place.ensures.same_reference (each_next (λ n. from_first n) c.loop-n.n)
+loop-n-preserved c = tried_one c.args.question _ _ _ _ _ _ c.loop-n.invariant c.try_place.ensures (each_next (λ n. from_first n) c.loop-n.n)
 
 pub loop-n-2-init : goal.loop-n-2-init
 unfolding up_to
@@ -20,5 +20,5 @@ loop-n-2-init c =
 pub loop-n-2-preserved : goal.loop-n-2-preserved
 loop-n-2-preserved c =
     let first = each (λ n. from_first n) (up_to 65) in
-    tried_one c.args.question _ _ _ _ _ _ c.loop-n-2.invariant c.try_place-in-loop-n-2.ensures.tried c.try_place-in-loop-n-2.ensures.same_reference
+    tried_one c.args.question _ _ _ _ _ _ c.loop-n-2.invariant c.try_place-in-loop-n-2.ensures
     (ap (λ l. first ++ l) (each_next (λ n. from_last n) c.loop-n-2.n) ∙ sym (append_assoc first (each (λ n. from_last n) (up_to c.loop-n-2.n)) (from_last c.loop-n-2.n ∷ [])))

@@ -1,9 +1,7 @@
-use Rattle.std.proofs.Common.{ap, ◌∙◌, append-nil}
-use Rattle.candidates.specs.RowTable.{first_given}
-use Rattle.candidates.specs.Tables.{the_table, all_tried_for}
-use Rattle.candidates.specs.Values.{examples_of}
+use Rattle.std.proofs.Common.{append-nil}
+use Rattle.candidates.specs.Tables.{first_of}
 use Rattle.candidates.proofs.PlacesTried.{right_on, left_on}
-use Rattle.candidates.proofs.TriedInTurn.{tried_none, tried_same, kinds_end}
+use Rattle.candidates.proofs.TriedInTurn.{tried_none, tried_same, tried_end, kinds_end}
 use Rattle.candidates.proofs.table.Table.try_kinds.Goals as goal
 
 pub loop-left-init : goal.loop-left-init
@@ -14,12 +12,12 @@ loop-right-init c = tried_same _ _ _ _ _ c.loop-left.invariant (append-nil _)
 
 pub loop-right-preserved : goal.loop-right-preserved
 loop-right-preserved c =
-    right_on (first_given (examples_of c.args.question)) c.args.kinds.now c.args.question _ c.loop-left.left-index c.loop-right.right-index _ _ _ _ c.loop-right.invariant c.loop-right-test.true
-    c.try_between.ensures.tried c.try_between.ensures.same_reference
+    right_on (first_of c.args.question) c.args.kinds.now c.args.question _ c.loop-left.left-index c.loop-right.right-index _ _ _ _ c.loop-right.invariant c.loop-right-test.true
+    c.try_between.ensures
 
 pub loop-left-preserved : goal.loop-left-preserved
 loop-left-preserved c =
-    left_on (first_given (examples_of c.args.question)) c.args.kinds.now c.args.question _ c.loop-left.left-index c.loop-right.right-index _ _ c.loop-right.invariant c.loop-left-test.true c.loop-right-test.false
+    left_on (first_of c.args.question) c.args.kinds.now c.args.question _ c.loop-left.left-index c.loop-right.right-index _ _ c.loop-right.invariant c.loop-left-test.true c.loop-right-test.false
 
-pub returns-clause-tried : goal.returns-clause-tried
-returns-clause-tried c = c.loop-left.invariant.is ∙ ap (all_tried_for c.args.question (the_table c.args.self.now)) (kinds_end _ c.args.kinds.now c.loop-left.left-index c.loop-left-test.false)
+pub returns : goal.returns
+returns c = tried_end c.args.question _ _ _ _ c.loop-left.invariant (kinds_end _ c.args.kinds.now c.loop-left.left-index c.loop-left-test.false)
