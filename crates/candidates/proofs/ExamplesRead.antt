@@ -1,5 +1,6 @@
 -- The texts of the example that is read at a number, and how long they are.
 use Rattle.std.proofs.Common.{◌≡◌, ℕ, zero, suc, ◌<◌, ◌≤◌, true, List, [], ◌∷◌, length, get_or, refl, ap, arith}
+use Rattle.std.proofs.lemmas.Bool.{and_parts}
 use Rattle.rules.specs.Lists.{every}
 use Rattle.rules.proofs.EachElement.{each_length}
 use Rattle.candidates.specs.declared.example.Example.{Example}
@@ -24,6 +25,11 @@ short_read xs e d h all =
     let g = ap length (given_read xs e d h) in
     let w = ap length (wanted_read xs e d h) in
     (omega (arith, s.0), omega (arith, s.1))
+
+pub example_short : (xs : List Example) (e : ℕ) (d : Example) → e < length xs → every short_example (the_examples xs) ≡ true → short_example (the_example (get_or xs e d)) ≡ true
+example_short [] e d h all = absurd (omega arith)
+example_short (x ∷ xs) zero d h all = (and_parts (short_example (the_example x)) (every short_example (the_examples xs)) all).0
+example_short (x ∷ xs) (suc e) d h all = example_short xs e d (omega arith) (and_parts (short_example (the_example x)) (every short_example (the_examples xs)) all).1
 
 -- small examples are few
 pub few_read : (xs : List Example) → small_examples (the_examples xs) ≡ true → length xs ≤ 8

@@ -1,31 +1,13 @@
--- A list of parts of known lengths: a part is read, and a part is written.
-use Rattle.std.proofs.Common.{◌≡◌, ℕ, ◌+◌, ◌<◌, ◌≤◌, List, [], ◌++◌, length, get_or, take, drop, set, sym, refl, ap, ◌∙◌, append_assoc, append-nil, arith, length-append, length-drop, take-append-drop, length-take}
-use borrow.Rule.Slice.PartMut.{put_mid}
-use Rattle.std.proofs.lemmas.List.{take_all, take_at, drop_at, drop-drop, get_or_append_left, set-append_left}
+-- What is read of the four parts of a problem: the numbers in front, the texts, the guide and the table.
+use Rattle.std.proofs.Common.{◌≡◌, ℕ, ◌+◌, ◌<◌, ◌≤◌, List, [], ◌++◌, length, get_or, take, drop, sym, refl, ap, ◌∙◌, append_assoc, append-nil, arith, length-append, length-drop, length-take}
+use Rattle.std.proofs.lemmas.List.{take_at, drop_at, get_or_append_left}
 
 -- a part between two others
 module _ (a k : ℕ) (p q s xs : List ℕ) (front : length p ≡ a) (size : length q ≡ k) (is : xs ≡ p ++ (q ++ s)) where
-  past : drop a xs ≡ q ++ s
-  past = ap (drop a) is ∙ drop_at p (q ++ s) a front
-
   part_read : take k (drop a xs) ≡ q
-  part_read = ap (take k) past ∙ take_at q s k size
+  part_read = ap (take k) (ap (drop a) is ∙ drop_at p (q ++ s) a front) ∙ take_at q s k size
 
-  part_written : (ys : List ℕ) → put_mid a k xs ys ≡ p ++ (ys ++ s)
-  part_written ys =
-      ap (λ l. l ++ (ys ++ drop k (drop a xs))) (ap (take a) is ∙ take_at p (q ++ s) a front) ∙ ap (λ l. p ++ (ys ++ l)) (ap (drop k) past ∙ drop_at q s k size)
-
--- the four parts of a problem
 module _ (ns : List ℕ) (size : length ns ≡ 109866) where
-  rest : (a k : ℕ) → take k (drop a ns) ++ drop (a + k) ns ≡ drop a ns
-  rest a k = ap (λ l. take k (drop a ns) ++ l) (sym (drop-drop k a ns)) ∙ take-append-drop k (drop a ns)
-
-  pub four_parts : ns ≡ take 16 ns ++ (take 1170 (drop 16 ns) ++ (take 4680 (drop 1186 ns) ++ take 104000 (drop 5866 ns)))
-  four_parts =
-      let last : take 104000 (drop 5866 ns) ≡ drop 5866 ns = take_all 104000 (drop 5866 ns) (omega (arith, length-drop 5866 ns)) in
-      sym (ap (λ l. take 16 ns ++ (take 1170 (drop 16 ns) ++ (take 4680 (drop 1186 ns) ++ l))) last
-      ∙ ap (λ l. take 16 ns ++ (take 1170 (drop 16 ns) ++ l)) (rest 1186 4680) ∙ ap (λ l. take 16 ns ++ l) (rest 16 1170) ∙ take-append-drop 16 ns)
-
   pub part_long : (a k : ℕ) → a + k ≤ 109866 → length (take k (drop a ns)) ≡ k
   part_long a k h = let t = length-take k (drop a ns) in let d = length-drop a ns in omega arith
 
@@ -59,20 +41,5 @@ module _ (h t g b : List ℕ) (head : length h ≡ 16) (texts : length t ≡ 117
   pub table_part : take 104000 (drop 5866 whole) ≡ b
   table_part = part_read 5866 104000 (h ++ (t ++ g)) b [] whole three_long table three
 
-  -- and what is left where a part is written
-  pub texts_written : (ys : List ℕ) → put_mid 16 1170 whole ys ≡ h ++ (ys ++ (g ++ b))
-  texts_written ys = part_written 16 1170 h t (g ++ b) whole head texts refl ys
-
-  pub guide_written : (ys : List ℕ) → put_mid 1186 4680 whole ys ≡ h ++ (t ++ (ys ++ b))
-  guide_written ys = part_written 1186 4680 (h ++ t) g b whole two_long guide two ys ∙ append_assoc h t (ys ++ b)
-
-  pub table_written : (ys : List ℕ) → put_mid 5866 104000 whole ys ≡ h ++ (t ++ (g ++ ys))
-  table_written ys =
-      part_written 5866 104000 (h ++ (t ++ g)) b [] whole three_long table three ys
-      ∙ append_assoc h (t ++ g) (ys ++ []) ∙ ap (λ l. h ++ l) (append_assoc t g (ys ++ [])) ∙ ap (λ l. h ++ (t ++ (g ++ l))) (append-nil ys)
-
   pub head_number : (i : ℕ) → i < 16 → get_or whole i 0 ≡ get_or h i 0
   head_number i l = get_or_append_left h (t ++ (g ++ b)) 0 i (omega arith)
-
-  pub head_written : (i v : ℕ) → i < 16 → set whole i v ≡ set h i v ++ (t ++ (g ++ b))
-  head_written i v l = set-append_left h (t ++ (g ++ b)) i v (omega arith)

@@ -30,9 +30,8 @@ pub mod PiecesAgree
 pub mod CandidatePieces
 pub mod ViewAgrees
 pub mod CandidatesSound
-pub mod LiesInTurn
 pub mod RowWritten
-pub mod AlikeInTurn
+pub mod RowsRead
 pub mod RowsMoved
 pub mod RowAdded
 pub mod KindsCollected

@@ -1,52 +1,70 @@
 -- The steps of the walk through the places of a text try the places that the definitions list.
-use Rattle.std.proofs.Common.{◌≡◌, ℕ, ◌+◌, ◌-◌, ◌<◌, ◌≤◌, List, [], ◌∷◌, ◌++◌, length, get_or, take, sym, refl, ap, ◌∙◌, arith}
-use Rattle.std.proofs.lemmas.Bool.{eq-eqb, ne_eqb}
-use Rattle.rules.specs.Lists.{pick, each, flat, up_to}
-use Rattle.rules.specs.Places.{from_first, from_last, all_of}
-use Rattle.rules.specs.Examples.{Example}
-use Rattle.rules.specs.Values.{kind_number}
+use Rattle.std.proofs.Common.{◌≡◌, ℕ, zero, suc, ◌+◌, ◌<◌, ◌≤◌, Bool, true, false, List, [], ◌∷◌, ◌++◌, length, get_or, take, sym, refl, ap, ◌∙◌, ap₂, append_assoc, append-nil, arith}
+use Rattle.std.proofs.lemmas.List.{take_all}
+use Rattle.std.proofs.lemmas.Bool.{ne_eqb}
 use Rattle.rules.specs.declared.kind.Kind.{Kind}
-use Rattle.candidates.specs.declared.example.Example as declared
-use Rattle.candidates.specs.Places.{both_ways, places_between, places_behind, places_in, kinds_in}
-use Rattle.candidates.specs.RowTable.{Table, all_tried, first_given, table_for}
-use Rattle.candidates.specs.Values.{the_examples}
+use Rattle.rules.specs.declared.kind.Kind.TheVariants.{Anything}
+use Rattle.rules.specs.Lists.{pick, each, flat, up_to}
+use Rattle.rules.specs.Places.{Place, from_first, from_last, nth_of, all_of}
+use Rattle.rules.specs.Values.{kind_number}
+use Rattle.candidates.specs.declared.question.Question.{Question}
+use Rattle.candidates.specs.declared.table.Table as declared
+use Rattle.candidates.specs.Places.{both_ways, places_between, places_behind, places_among, counted, places_in, kinds_in}
+use Rattle.candidates.specs.RowTable.{Table}
+use Rattle.candidates.specs.Tables.{the_table, Becomes, all_tried_for, first_of}
 use Rattle.candidates.specs.Weights.{smaller}
-use Rattle.candidates.proofs.RowAdded.{table}
-use Rattle.candidates.proofs.TriedInTurn.{tried_then}
+use Rattle.candidates.proofs.KindsCollected.{zero_is}
+use Rattle.candidates.proofs.TriedInTurn.{tried_more, tried_same, tried_end, Tried, of_kinds, kinds_next, kinds_end}
 
-module _ (es : List Example) (asked : List (List ℕ)) (start : Table) (t : List ℕ) where
-  module _ (l r n m : ℕ) (left : n ≡ l) (right : m ≡ r) where
-    pub between_nothing : n + m ≡ 0 → start ≡ all_tried es asked start (places_between t l r)
-    unfolding all_tried places_between
-    between_nothing h = sym (ap (λ b. all_tried es asked start (pick b [] (flat (both_ways l r) (up_to (smaller (length (all_of t l r)) 64))))) (eq-eqb (l + r) 0 (omega arith)))
+-- both are anything, or not
+pub between_nothing : (t : List ℕ) (l r : Kind) → l ≡ Anything → r ≡ Anything → [] ≡ places_between t (kind_number l) (kind_number r)
+unfolding places_between
+between_nothing t l r h k = ap₂ (λ a b. places_between t (kind_number a) (kind_number b)) (sym h) (sym k)
 
-    pub between_kinds : (then : Table) (count : ℕ) → (n + m ≡ 0 → ⊥) → count ≡ smaller (length (all_of t l r)) 64 → then ≡ all_tried es asked start (flat (both_ways l r) (up_to count)) → then ≡ all_tried es asked start (places_between t l r)
-    unfolding places_between
-    between_kinds then count h c e =
-        e ∙ ap (λ k. all_tried es asked start (flat (both_ways l r) (up_to k))) c
-        ∙ sym (ap (λ b. all_tried es asked start (pick b [] (flat (both_ways l r) (up_to (smaller (length (all_of t l r)) 64))))) (ne_eqb (l + r) 0 (λ z. h (omega arith))))
+pub between_kinds : (t : List ℕ) (l r : Kind) (count : ℕ) → (l ≡ Anything → r ≡ Anything → ⊥) → count ≡ smaller (length (all_of t (kind_number l) (kind_number r))) 64
+    → flat (both_ways (kind_number l) (kind_number r)) (up_to count) ≡ places_between t (kind_number l) (kind_number r)
+unfolding places_between
+between_kinds t l r count h c =
+    let a : ℕ = kind_number l in
+    let b : ℕ = kind_number r in
+    let apart : a + b ≡ 0 → ⊥ = λ z. h (zero_is l (omega arith)) (zero_is r (omega arith)) in
+    ap (λ k. flat (both_ways a b) (up_to k)) c ∙ sym (ap (λ z. pick z [] (flat (both_ways a b) (up_to (smaller (length (all_of t a b)) 64)))) (ne_eqb (a + b) 0 apart))
 
-  all_of_kinds : (first last then : Table) (ks : List ℕ) → ks ≡ kinds_in t → first ≡ all_tried es asked start (each (λ n. from_first n) (up_to 65)) → last ≡ all_tried es asked first (each (λ n. from_last n) (up_to 65)) → then ≡ all_tried es asked last (flat (λ l. places_behind t ks l) ks) → then ≡ all_tried es asked start (places_in t)
-  unfolding places_in
-  all_of_kinds first last then ks k e₁ e₂ e₃ =
-      tried_then es asked start first then (each (λ n. from_first n) (up_to 65)) (each (λ n. from_last n) (up_to 65) ++ flat (λ l. places_behind t (kinds_in t) l) (kinds_in t)) _ e₁
-      (tried_then es asked first last then (each (λ n. from_last n) (up_to 65)) (flat (λ l. places_behind t (kinds_in t) l) (kinds_in t)) _ e₂ (e₃ ∙ ap (λ x. all_tried es asked last (flat (λ l. places_behind t x l) x)) k) refl) refl
+-- from the beginning, then from the end
+pub ways_next : (l r n i : ℕ) (d : Bool) (front : List Place) → i < 2 → front ++ take (i + 1) (both_ways l r n) ≡ (front ++ take i (both_ways l r n)) ++ nth_of l r (n + 1) (get_or (false ∷ true ∷ []) i d) ∷ []
+ways_next l r n zero d front h = ap (λ x. x ++ (nth_of l r (n + 1) false ∷ [])) (sym (append-nil front))
+ways_next l r n (suc zero) d front h = sym (append_assoc front (nth_of l r (n + 1) false ∷ []) (nth_of l r (n + 1) true ∷ []))
+ways_next l r n (suc (suc i)) d front h = absurd (omega arith)
 
-  -- the kinds are the first of a list
-  pub all_places : (first last then : Table) (list : List Kind) (count : ℕ) → each kind_number (take count list) ≡ kinds_in t → first ≡ all_tried es asked start (each (λ n. from_first n) (up_to 65)) → last ≡ all_tried es asked first (each (λ n. from_last n) (up_to 65)) → then ≡ all_tried es asked last (flat (λ l. places_behind t (each kind_number (take (count - 0) list)) l) (each kind_number (take (count - 0) list))) → then ≡ all_tried es asked start (places_in t)
-  all_places first last then list count k e₁ e₂ e₃ =
-      let same : count - 0 ≡ count = omega arith in
-      all_of_kinds first last then (each kind_number (take (count - 0) list)) (ap (λ n. each kind_number (take n list)) same ∙ k) e₁ e₂ e₃
+pub ways_all : (l r n i : ℕ) (front : List Place) → 2 ≤ i → front ++ both_ways l r n ≡ front ++ take i (both_ways l r n)
+ways_all l r n i front h = ap (λ x. front ++ x) (sym (take_all i (both_ways l r n) h))
 
--- THE FIRST GIVEN TEXT
-pub first_there : (es : List declared.Example) (d : declared.Example) → 0 < length es → (get_or es 0 d).given.now ≡ first_given (the_examples es)
-first_there [] d h = absurd (omega arith)
-first_there (e ∷ es) d h = refl
+module _ (t : List ℕ) (ks : List Kind) where
+  -- the places behind the first i kinds, and those between a kind and each of the first j
+  abbrev pub lefts : ℕ → List Place
+  lefts i = of_kinds (λ k. places_behind t (each kind_number ks) k) i ks
 
-pub first_missing : (es : List declared.Example) → length es ≤ 0 → [] ≡ first_given (the_examples es)
-first_missing [] h = refl
-first_missing (e ∷ es) h = absurd (omega arith)
+  abbrev pub rights : Kind → ℕ → List Place
+  rights l j = of_kinds (λ r. places_between t (kind_number l) r) j ks
 
-pub table_laid : (es : List Example) (asked : List (List ℕ)) (numbers text : List ℕ) (then : Table) → text ≡ first_given es → then ≡ all_tried es asked (table numbers 0) (places_in text) → then ≡ table_for es asked numbers
-unfolding table_for
-table_laid es asked numbers text then e f = f ∙ ap (λ t. all_tried es asked (table numbers 0) (places_in t)) e
+  module _ (q : Question) (start : declared.Table) where
+    pub right_on : (i j : ℕ) (l d : Kind) (now then : declared.Table) → Tried q start (lefts i ++ rights l j) now → j < length ks
+        → Becomes now then (all_tried_for q (the_table now) (places_between t (kind_number l) (kind_number (get_or ks j d)))) → Tried q start (lefts i ++ rights l (j + 1)) then
+    right_on i j l d now then tried h b =
+        tried_more q start now then (lefts i ++ rights l j) (places_between t (kind_number l) (kind_number (get_or ks j d))) (lefts i ++ rights l (j + 1)) tried b
+        (ap (λ x. lefts i ++ x) (kinds_next (λ r. places_between t (kind_number l) r) ks j d h) ∙ sym (append_assoc (lefts i) (rights l j) (places_between t (kind_number l) (kind_number (get_or ks j d)))))
+
+    pub left_on : (i j : ℕ) (d : Kind) (now : declared.Table) → Tried q start (lefts i ++ rights (get_or ks i d) j) now → i < length ks → length ks ≤ j → Tried q start (lefts (i + 1)) now
+    unfolding places_behind
+    left_on i j d now tried h k =
+        tried_same q start now (lefts i ++ rights (get_or ks i d) j) (lefts (i + 1)) tried
+        (kinds_next (λ k. places_behind t (each kind_number ks) k) ks i d h ∙ ap (λ x. lefts i ++ x) (sym (kinds_end (λ r. places_between t (kind_number (get_or ks i d)) r) ks j k)))
+
+-- first those that are counted in bytes, then those between kinds
+pub all_places : (q : Question) (start first then : declared.Table) (t ks : List ℕ) → ks ≡ kinds_in t → Becomes start first (all_tried_for q (the_table start) counted)
+    → Becomes first then (all_tried_for q (the_table first) (places_among t ks)) → Becomes start then (all_tried_for q (the_table start) (places_in t))
+unfolding places_in
+all_places q start first then t ks k b c =
+    let tried : Tried q start counted first = record { is = b.is; same_reference = b.same_reference } in
+    let all : counted ++ places_among t ks ≡ places_in t = append_assoc (each (λ n. from_first n) (up_to 65)) (each (λ n. from_last n) (up_to 65)) (places_among t ks) ∙ ap (λ x. each (λ n. from_first n) (up_to 65) ++ (each (λ n. from_last n) (up_to 65) ++ places_among t x)) k in
+    tried_end q start then (counted ++ places_among t ks) (places_in t) (tried_more q start first then counted (places_among t ks) (counted ++ places_among t ks) tried c refl) all

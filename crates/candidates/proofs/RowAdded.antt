@@ -1,32 +1,41 @@
 -- Each way in which a row is added, or not, is as `added` says.
-use Rattle.std.proofs.Common.{◌≡◌, ℕ, ◌+◌, ◌-◌, ◌<◌, ◌≤◌, ltb, List, get_or, sym, ap, ◌∙◌}
+use Rattle.std.proofs.Common.{◌≡◌, ℕ, ◌+◌, ◌-◌, ◌<◌, ◌≤◌, ltb, List, get_or, sym, refl, ap, ◌∙◌, arith}
 use Rattle.std.proofs.lemmas.Bool.{lt-ltb, le-ltb}
 use Rattle.rules.specs.Lists.{pick}
-use Rattle.candidates.specs.RowTable.{Table, row_number, with_row, alike_at, moved_down, in_place_of, pushed, added, added_at, most_rows}
+use Rattle.candidates.specs.declared.table.Table as declared
+use Rattle.candidates.specs.Tables.{the_table, Becomes}
+use Rattle.candidates.specs.RowTable.{Table, row_number, with_row, alike_at, in_place_of, pushed, added, added_at, most_rows}
 
 abbrev pub table : List ℕ → ℕ → Table
 table t rows = record { numbers = t; rows = rows }
 
-module _ (t x : List ℕ) (rows i : ℕ) (e : i ≡ alike_at t x 0 rows) where
-  first_alike : added (table t rows) x ≡ added_at (table t rows) x i
-  unfolding added
-  first_alike = ap (added_at (table t rows) x) (sym e)
+-- a table that stays as it was, and one that became what another word says too
+pub becomes_still : (was : declared.Table) (t : Table) → the_table was ≡ t → Becomes was was t
+becomes_still was t e = record { same_reference = refl; is = e }
 
-  among : i < rows → added (table t rows) x ≡ pick (ltb (get_or x 5 0) (row_number t i 5)) (in_place_of (table t rows) i x) (table t rows)
-  among h = first_alike ∙ ap (λ b. pick b (pick (ltb (get_or x 5 0) (row_number t i 5)) (in_place_of (table t rows) i x) (table t rows)) (pushed (table t rows) x)) (lt-ltb i rows h)
+pub becomes_as : (was now : declared.Table) (t u : Table) → Becomes was now t → t ≡ u → Becomes was now u
+becomes_as was now t u b e = record { same_reference = b.same_reference; is = b.is ∙ e }
 
-  pub added_instead : (moved then : List ℕ) → i < rows → get_or x 5 0 < row_number t i 5 → moved ≡ moved_down t i (rows - (i + 1)) → then ≡ with_row moved (rows - 1) x → table then rows ≡ added (table t rows) x
-  added_instead moved then h k m n =
-      sym (among h ∙ ap (λ b. pick b (in_place_of (table t rows) i x) (table t rows)) (lt-ltb _ _ k) ∙ ap (λ l. table l rows) (ap (λ l. with_row l (rows - 1) x) (sym m) ∙ sym n))
+module _ (t : Table) (x : List ℕ) where
+  module _ (i : ℕ) (e : alike_at t.numbers x 0 t.rows ≡ i) (h : i < t.rows) where
+    among : added t x ≡ pick (ltb (get_or x 5 0) (row_number t.numbers i 5)) (in_place_of t i x) t
+    unfolding added
+    among = ap (added_at t x) e ∙ ap (λ b. pick b (pick (ltb (get_or x 5 0) (row_number t.numbers i 5)) (in_place_of t i x) t) (pushed t x)) (lt-ltb i t.rows h)
 
-  pub added_dearer : i < rows → row_number t i 5 ≤ get_or x 5 0 → table t rows ≡ added (table t rows) x
-  added_dearer h k = sym (among h ∙ ap (λ b. pick b (in_place_of (table t rows) i x) (table t rows)) (le-ltb _ _ k))
+    pub added_instead : get_or x 5 0 < row_number t.numbers i 5 → in_place_of t i x ≡ added t x
+    added_instead k = sym (among ∙ ap (λ b. pick b (in_place_of t i x) t) (lt-ltb _ _ k))
 
-  behind : rows ≤ i → added (table t rows) x ≡ pick (ltb rows most_rows) (table (with_row t rows x) (rows + 1)) (table t rows)
-  behind h = first_alike ∙ ap (λ b. pick b (pick (ltb (get_or x 5 0) (row_number t i 5)) (in_place_of (table t rows) i x) (table t rows)) (pushed (table t rows) x)) (le-ltb i rows h)
+    pub added_dearer : row_number t.numbers i 5 ≤ get_or x 5 0 → t ≡ added t x
+    added_dearer k = sym (among ∙ ap (λ b. pick b (in_place_of t i x) t) (le-ltb _ _ k))
 
-  pub added_behind : (then : List ℕ) → rows ≤ i → rows < most_rows → then ≡ with_row t rows x → table then (rows + 1) ≡ added (table t rows) x
-  added_behind then h k n = sym (behind h ∙ ap (λ b. pick b (table (with_row t rows x) (rows + 1)) (table t rows)) (lt-ltb _ _ k) ∙ ap (λ l. table l (rows + 1)) (sym n))
+  module _ (e : alike_at t.numbers x 0 t.rows ≡ t.rows) where
+    behind : added t x ≡ pushed t x
+    unfolding added
+    behind =
+        ap (added_at t x) e ∙ ap (λ b. pick b (pick (ltb (get_or x 5 0) (row_number t.numbers t.rows 5)) (in_place_of t t.rows x) t) (pushed t x)) (le-ltb t.rows t.rows (omega arith))
 
-  pub added_full : rows ≤ i → most_rows ≤ rows → table t rows ≡ added (table t rows) x
-  added_full h k = sym (behind h ∙ ap (λ b. pick b (table (with_row t rows x) (rows + 1)) (table t rows)) (le-ltb _ _ k))
+    pub added_behind : t.rows < most_rows → table (with_row t.numbers t.rows x) (t.rows + 1) ≡ added t x
+    added_behind k = sym (behind ∙ ap (λ b. pick b (table (with_row t.numbers t.rows x) (t.rows + 1)) t) (lt-ltb _ _ k))
+
+    pub added_full : most_rows ≤ t.rows → t ≡ added t x
+    added_full k = sym (behind ∙ ap (λ b. pick b (table (with_row t.numbers t.rows x) (t.rows + 1)) t) (le-ltb _ _ k))

@@ -30,7 +30,7 @@ lies_in_each [] p e h k = absurd (omega arith)
 lies_in_each (x ∷ es) p zero h k = not-true (none_of (spot x.given p)) (and_parts (not (none_of (spot x.given p))) (lies_in_all es p) h).0
 lies_in_each (x ∷ es) p (suc e) h k = lies_in_each es p e (and_parts (not (none_of (spot x.given p))) (lies_in_all es p) h).1 (omega arith)
 
-positions_long : (es : List Example) (n : ℕ) (p : Place) → length (positions_in es n p) ≡ n
+pub positions_long : (es : List Example) (n : ℕ) (p : Place) → length (positions_in es n p) ≡ n
 positions_long es zero p = refl
 positions_long [] (suc n) p = ap suc (positions_long [] n p)
 positions_long (e ∷ es) (suc n) p = ap suc (positions_long es n p)

@@ -1,9 +1,18 @@
 -- What small examples are: few and short.
-use Rattle.std.proofs.Common.{◌≡◌, ℕ, zero, suc, ◌<◌, ◌≤◌, true, ltb, leb, List, [], ◌∷◌, length, refl, arith}
-use Rattle.std.proofs.lemmas.Bool.{and_parts, and_from, leb-true}
+use Rattle.std.proofs.Common.{◌≡◌, ℕ, zero, suc, ◌<◌, ◌≤◌, true, ◌&&◌, ltb, leb, List, [], ◌∷◌, length, get_or, sym, refl, ap, ◌∙◌, arith, w8, Fits}
+use Rattle.std.proofs.lemmas.Bool.{and_parts, and_from, lt-ltb, leb-true}
+use Rattle.std.proofs.Math.Bool.{and-true}
 use Rattle.rules.specs.Lists.{every}
 use Rattle.rules.specs.Examples.{Example}
 use Rattle.candidates.specs.Rows.{small_text, small_example, small_examples, short_example, given_of, wanted_of}
+
+-- all numbers of a text of bytes are below 256
+bytes_below : (t : List ℕ) → ((k : ℕ) → Fits w8 (get_or t k 0)) → every (λ c. ltb c 256) t ≡ true
+bytes_below [] h = refl
+bytes_below (x ∷ t) h = and_from _ _ (lt-ltb x 256 (h 0).fits) (bytes_below t (λ k. h (suc k)))
+
+pub bytes_small : (t : List ℕ) → ((k : ℕ) → Fits w8 (get_or t k 0)) → leb (length t) 64 ≡ small_text t
+bytes_small t h = sym (ap (λ b. leb (length t) 64 && b) (bytes_below t h) ∙ and-true (leb (length t) 64))
 
 pub small_few : (es : List Example) → small_examples es ≡ true → length es ≤ 8
 small_few es h = leb-true (length es) 8 (and_parts (leb (length es) 8) (every small_example es) h).0

@@ -5,6 +5,7 @@ pub mod Moves
 pub mod Rows
 pub mod Places
 pub mod RowTable
+pub mod Tables
 pub mod Candidates
 pub mod Guide
 pub mod Problem

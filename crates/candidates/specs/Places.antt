@@ -25,6 +25,14 @@ places_between t l r = pick (l + r == 0) [] (flat (both_ways l r) (up_to (smalle
 unfoldable pub places_behind : List ℕ → List ℕ → ℕ → List Place
 places_behind t rs l = flat (λ r. places_between t l r) rs
 
+-- the places between any two of some kinds
+abbrev pub places_among : List ℕ → List ℕ → List Place
+places_among t ks = flat (λ l. places_behind t ks l) ks
+
+-- the places counted in bytes, from the beginning and from the end
+abbrev pub counted : List Place
+counted = each (λ n. from_first n) (up_to 65) ++ each (λ n. from_last n) (up_to 65)
+
 -- all of them; those counted in bytes may be missing
 unfoldable pub places_in : List ℕ → List Place
 places_in t = each (λ n. from_first n) (up_to 65) ++ (each (λ n. from_last n) (up_to 65) ++ flat (λ l. places_behind t (kinds_in t) l) (kinds_in t))

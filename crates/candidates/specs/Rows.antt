@@ -1,5 +1,5 @@
 -- Places by where they lie in the given texts, and what makes a table of them right. Assumes nothing: these are definitions.
-use Rattle.std.specs.Prelude.{◌≡◌, ℕ, ◌<◌, Bool, true, false, not, ◌&&◌, ◌⊎◌, List, [], ◌∷◌, length, nat_le, nat_lt, slice_index_or}
+use Rattle.std.specs.Prelude.{◌≡◌, ℕ, ◌<◌, Bool, true, false, not, ◌&&◌, ◌⊎◌, List, [], ◌∷◌, length, Option, MatchOption, nat_le, nat_lt, slice_index_or}
 use Rattle.rules.specs.Lists.{every, each, none_of, earlier}
 use Rattle.rules.specs.Places.{Place, spot}
 use Rattle.rules.specs.Rules.{place_cost, a_place}
@@ -37,6 +37,10 @@ example_at es e = record { given = given_of es e; wanted = wanted_of es e }
 -- the place is there in every given text
 abbrev pub lies_in_all : List Example → Place → Bool
 lies_in_all es p = every (λ e. not (none_of (spot e.given p))) es
+
+-- x, if the place is there in every given text; else none
+abbrev pub IfThere : {A : Type 0} → List Example → Place → Option A → A → Type 0
+IfThere es p r x = MatchOption r (lies_in_all es p ≡ false) (λ y. (lies_in_all es p ≡ true) × (y ≡ x))
 
 -- a table of places: how many rows, the place of a row, and where it lies in given text e; 8 is the text that is asked about
 pub record Rows : Type 0 where

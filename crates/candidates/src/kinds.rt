@@ -1,47 +1,57 @@
 // The kinds that stand in a text.
-ghost use Rattle.std.specs.Prelude.{◌≡◌, ◌≤◌, take};
+ghost use Rattle.std.specs.Prelude.{◌≡◌, ◌+◌, ◌<◌, ◌≤◌, ◌++◌, [], ◌∷◌, take};
 ghost use Rattle.rules.specs.Lists.{each};
 ghost use Rattle.rules.specs.Values.{kind_number};
 ghost use Rattle.candidates.specs.Places.{stands_in, kinds_in};
 
 use rules::Kind;
 
-// The first `count` of the list.
+// Kinds in the order of their numbers: the first `count` of the list, since there is no heap.
 #[derive(Drop)]
 pub(crate) struct Kinds {
-    pub list: [Kind; 512],
-    pub count: usize,
+    list: [Kind; 512],
+    count: usize,
+    ghost few: { count ≤ 512 },
+}
+
+impl Kinds {
+    pub(crate) fn as_slice(&self) -> &[Kind]
+        ensures { result.now ≡ take self.now.count self.now.list }
+    {
+        &self.list[..self.count]
+    }
+
+    fn push(&mut self, kind: Kind)
+        requires room { self.old.count < 512 }
+        ensures count { self.new.count ≡ self.old.count + 1 }
+        ensures pushed { take self.new.count self.new.list ≡ take self.old.count self.old.list ++ kind ∷ [] }
+    {
+        self.list[self.count] = kind;
+        self.count += 1;
+    }
 }
 
 // Whether the text has a byte of the kind; anything stands in every text.
 fn stands_in(text: &[u8], kind: Kind) -> bool
     ensures { result ≡ stands_in text.now (kind_number kind) }
 {
-    if kind.number() == 0 {
-        return true;
-    }
-    for byte in text {
-        if kind.has(*byte) {
-            return true;
-        }
-    }
-    false
+    kind == Kind::Anything || text.iter().any(|byte| kind.has(*byte))
 }
 
-// The kinds that stand in the text, in the order of their numbers.
+// The kinds that stand in the text.
 pub(crate) fn kinds_in(text: &[u8]) -> Kinds
-    ensures few { result.count ≤ 512 }
-    ensures all { each kind_number (take result.count result.list) ≡ kinds_in text.now }
+    ensures { each kind_number (take result.count result.list) ≡ kinds_in text.now }
 {
-    let mut list = [Kind::Anything; 512];
-    let mut count = 0;
+    let mut kinds = Kinds {
+        list: [Kind::Anything; 512],
+        count: 0,
+    };
     for number in 0..512 {
         if let Some(kind) = Kind::numbered(number) {
             if stands_in(text, kind) {
-                list[count] = kind;
-                count += 1;
+                kinds.push(kind);
             }
         }
     }
-    Kinds { list, count }
+    kinds
 }

@@ -8,8 +8,16 @@ ghost use Rattle.candidates.specs.Values.{the_examples, the_asked};
 
 use crate::example::Example;
 use crate::guide::{all_costs, lay_guides};
+use crate::question::Question;
 use crate::texts::lay_texts;
 use crate::walk::lay_rows;
+
+// The numbers before the texts, of the texts and of the guide; behind these lies the table.
+const HEAD: usize = 16;
+
+const TEXTS: usize = 1170;
+
+const GUIDE: usize = 4680;
 
 // Lays down the problem of some examples, and a text that may be asked about.
 pub fn lay(numbers: &mut [u64], examples: &[Example], asked: Option<&[u8]>)
@@ -18,10 +26,12 @@ pub fn lay(numbers: &mut [u64], examples: &[Example], asked: Option<&[u8]>)
     requires short { every short_example (the_examples examples.now) ≡ true }
     ensures { numbers.new ≡ laid_problem (the_examples examples.now) (the_asked asked.entry) numbers.old }
 {
-    lay_texts(&mut numbers[16..1186], examples);
-    let rows = lay_rows(&mut numbers[5866..109866], examples, asked);
-    let costs = all_costs(&numbers[5866..109866], rows);
-    lay_guides(&mut numbers[1186..5866], &costs, examples);
-    numbers[0] = examples.len() as u64;
-    numbers[1] = rows as u64;
+    let (head, rest) = numbers.split_at_mut(HEAD);
+    let (texts, rest) = rest.split_at_mut(TEXTS);
+    let (guide, table) = rest.split_at_mut(GUIDE);
+    lay_texts(texts, examples);
+    let rows = lay_rows(table, Question { examples, asked });
+    lay_guides(guide, &all_costs(table, rows), examples);
+    head[0] = examples.len() as u64;
+    head[1] = rows as u64;
 }

@@ -1,6 +1,7 @@
 // What can matter in a search for some examples: places by where they lie, the candidate parts at a state, and a lower bound of what is still needed.
 #![tactic(auto)]
 
+mod add;
 mod candidate;
 mod choose;
 mod example;
@@ -12,6 +13,7 @@ mod memory;
 mod position;
 mod problem;
 mod promises;
+mod question;
 mod row;
 mod rows;
 mod small;

@@ -1,44 +1,46 @@
-// Where a place lies in each of the given texts.
-ghost use Rattle.std.specs.Prelude.{◌≡◌, ◌≤◌, length};
+// Where a place lies in each of the texts.
+ghost use Rattle.std.specs.Prelude.{◌≡◌};
 ghost use Rattle.rules.specs.Values.{the_place};
-ghost use Rattle.candidates.specs.Positions.{position, positions_in};
-ghost use Rattle.candidates.specs.RowTable.{asked_position};
-ghost use Rattle.candidates.specs.Values.{the_examples, the_asked};
+ghost use Rattle.candidates.specs.Positions.{positions_in};
+ghost use Rattle.candidates.specs.RowTable.{asked_position, first_given};
+ghost use Rattle.candidates.specs.Rows.{IfThere};
+ghost use Rattle.candidates.specs.Values.{examples_of, asked_of};
 
-use crate::example::Example;
+use crate::question::Question;
 use rules::Place;
 
-// Its number where it is missing.
-pub const MISSING: u64 = 255;
+// A row has a plain number where the place is missing too.
+const MISSING: u64 = 255;
 
-// Where a place lies in a text, or MISSING.
-pub fn position(place: Place, text: &[u8]) -> u64
-    ensures { result ≡ position text.now (the_place place) }
-{
-    match place.spot(text) {
-        Some(at) => at as u64,
-        None => MISSING,
+impl<'a> Question<'a> {
+    // Where a place lies in each given text, if it is there in all; 0 past the last example.
+    pub(crate) fn positions(self, place: Place) -> Option<[u64; 8]>
+        ensures { IfThere (examples_of self.entry) (the_place place) result (positions_in (examples_of self.entry) 8 (the_place place)) }
+    {
+        let mut at = [0u64; 8];
+        for (e, example) in self.examples.iter().enumerate() {
+            at[e] = place.spot(example.given)? as u64;
+        }
+        Some(at)
     }
-}
 
-// Where it lies in each given text; 0 past the last example.
-pub fn positions(place: Place, examples: &[Example]) -> [u64; 8]
-    requires { length examples.now ≤ 8 }
-    ensures { result ≡ positions_in (the_examples examples.now) 8 (the_place place) }
-{
-    let mut at = [0u64; 8];
-    for (e, example) in examples.iter().enumerate() {
-        at[e] = position(place, example.given);
+    // Where it lies in the text that is asked about; 0 if there is none.
+    pub(crate) fn asked_position(self, place: Place) -> u64
+        ensures { result ≡ asked_position (asked_of self.entry) (the_place place) }
+    {
+        match self.asked {
+            Some(text) => place.spot(text).map_or(MISSING, |at| at as u64),
+            None => 0,
+        }
     }
-    at
-}
 
-// Where it lies in the text that is asked about; 0 if there is none.
-pub(crate) fn asked_position(place: Place, asked: Option<&[u8]>) -> u64
-    ensures { result ≡ asked_position (the_asked asked.entry) (the_place place) }
-{
-    match asked {
-        Some(text) => position(place, text),
-        None => 0,
+    // The given text of the first example.
+    pub(crate) fn first_given(self) -> &'a [u8]
+        ensures { result.now ≡ first_given (examples_of self.entry) }
+    {
+        match self.examples {
+            [first, ..] => first.given,
+            [] => &[],
+        }
     }
 }

@@ -1,18 +1,27 @@
 // A row of the table: the numbers that say a place, what it costs, and where it lies.
-ghost use Rattle.std.specs.Prelude.{◌≡◌, ◌≤◌, not, length};
-ghost use Rattle.rules.specs.Lists.{none_of};
-ghost use Rattle.rules.specs.Places.{spot};
+ghost use Rattle.std.specs.Prelude.{◌≡◌};
 ghost use Rattle.rules.specs.Values.{the_place};
-ghost use Rattle.candidates.specs.RowTable.{place_numbers, row_of};
-ghost use Rattle.candidates.specs.Rows.{lies_in_all};
-ghost use Rattle.candidates.specs.Values.{the_examples, the_asked};
+ghost use Rattle.candidates.specs.RowTable.{place_numbers, row_of, alike};
+ghost use Rattle.candidates.specs.Rows.{IfThere};
+ghost use Rattle.candidates.specs.Values.{examples_of, asked_of};
 
-use crate::example::Example;
-use crate::position::{asked_position, positions};
+use crate::question::Question;
 use rules::Place;
 
+// A row's numbers: five that say the place, its cost, where it lies in eight given texts and in the text asked about, and 0.
+pub(crate) const ROW: usize = 16;
+
+pub(crate) const COST: usize = 5;
+
+const AT: usize = 6;
+
+const ASKED: usize = 14;
+
+pub(crate) type Row = [u64; ROW];
+
 // The five numbers that say a place.
-fn place_numbers(place: Place) -> [u64; 5]
+#[tactic(auto, unfolding(crate::specs::RowTable::place_numbers))]
+fn place_numbers(place: Place) -> [u64; COST]
     ensures { result ≡ place_numbers (the_place place) }
 {
     match place {
@@ -33,39 +42,22 @@ fn place_numbers(place: Place) -> [u64; 5]
     }
 }
 
-// The row of a place.
-pub(crate) fn row_of(place: Place, examples: &[Example], asked: Option<&[u8]>) -> [u64; 16]
-    requires { length examples.now ≤ 8 }
-    ensures { result ≡ row_of (the_examples examples.now) (the_asked asked.entry) (the_place place) }
+// The row of a place, if that is there in every given text.
+pub(crate) fn row_of(place: Place, question: Question) -> Option<Row>
+    ensures { IfThere (examples_of question.entry) (the_place place) result (row_of (examples_of question.entry) (asked_of question.entry) (the_place place)) }
 {
-    let says = place_numbers(place);
-    let cost = place.cost();
-    let at = positions(place, examples);
-    let asked_at = asked_position(place, asked);
-    [
-        says[0], says[1], says[2], says[3], says[4], cost, at[0], at[1], at[2], at[3], at[4],
-        at[5], at[6], at[7], asked_at, 0,
-    ]
+    let at = question.positions(place)?;
+    let mut row = [0; ROW];
+    row[..COST].copy_from_slice(&place_numbers(place));
+    row[COST] = place.cost();
+    row[AT..ASKED].copy_from_slice(&at);
+    row[ASKED] = question.asked_position(place);
+    Some(row)
 }
 
-// Whether the place is there in a text.
-fn lies_in(place: Place, text: &[u8]) -> bool
-    ensures { result ≡ not (none_of (spot text.now (the_place place))) }
+// Whether two rows lie alike.
+pub(crate) fn lie_alike(row: &Row, other: &Row) -> bool
+    ensures { result ≡ alike row.now other.now }
 {
-    match place.spot(text) {
-        Some(_) => true,
-        None => false,
-    }
-}
-
-// Whether it is there in every given text.
-pub(crate) fn lies_in_all(place: Place, examples: &[Example]) -> bool
-    ensures { result ≡ lies_in_all (the_examples examples.now) (the_place place) }
-{
-    for example in examples {
-        if !lies_in(place, example.given) {
-            return false;
-        }
-    }
-    true
+    row[AT..] == other[AT..]
 }

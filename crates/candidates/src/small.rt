@@ -1,16 +1,15 @@
 // Whether examples are small: up to eight, with texts of up to 64 bytes.
 ghost use Rattle.std.specs.Prelude.{◌≡◌};
-ghost use Rattle.rules.specs.Lists.{every};
 ghost use Rattle.candidates.specs.Rows.{small_text, small_example, small_examples};
 ghost use Rattle.candidates.specs.Values.{the_example, the_examples};
 
 use crate::example::Example;
-use rules::all_bytes;
+
+const MOST_EXAMPLES: usize = 8;
 
 fn is_small_text(text: &[u8]) -> bool
     ensures { result ≡ small_text text.now }
 {
-    all_bytes(text);
     text.len() <= 64
 }
 
@@ -20,20 +19,9 @@ fn is_small(example: &Example) -> bool
     is_small_text(example.given) && is_small_text(example.wanted)
 }
 
-fn all_small(examples: &[Example]) -> bool
-    ensures { result ≡ every small_example (the_examples examples.now) }
-{
-    for example in examples {
-        if !is_small(example) {
-            return false;
-        }
-    }
-    true
-}
-
 // Whether a problem can be laid down for the examples.
 pub fn are_small(examples: &[Example]) -> bool
     ensures { result ≡ small_examples (the_examples examples.now) }
 {
-    examples.len() <= 8 && all_small(examples)
+    examples.len() <= MOST_EXAMPLES && examples.iter().all(|example| is_small(example))
 }

@@ -3,32 +3,36 @@ ghost use Rattle.std.specs.Prelude.{◌≡◌, ◌+◌, ◌<◌, ◌≤◌, true
 ghost use Rattle.rules.specs.Lists.{every};
 ghost use Rattle.candidates.specs.LaidProblem.{with_text, with_example, texts_laid};
 ghost use Rattle.candidates.specs.Rows.{short_example};
-ghost use Rattle.candidates.specs.Values.{the_examples};
+ghost use Rattle.candidates.specs.Values.{the_example, the_examples};
 
 use crate::example::Example;
 
+// An example's numbers, and where its texts begin among them, behind their two lengths.
+const EXAMPLE: usize = 130;
+const GIVEN: usize = 2;
+const WANTED: usize = 66;
+
 // Lays down a text from a position on.
 fn put_text(out: &mut [u64], at: usize, text: &[u8])
-    requires { at + length text.now ≤ length out.old }
+    requires room { at + length text.now ≤ length out.old }
     ensures { out.new ≡ with_text out.old at text.now }
 {
-    for i in 0..text.len() {
-        out[at + i] = text[i] as u64;
+    for (i, byte) in text.iter().enumerate() {
+        out[at + i] = *byte as u64;
     }
 }
 
 // Lays down the texts of example e in their place.
-fn put_example(out: &mut [u64], e: usize, given: &[u8], wanted: &[u8])
+fn put_example(out: &mut [u64], e: usize, example: &Example)
     requires size { length out.old ≡ 1170 }
     requires one_of_eight { e < 8 }
-    requires given_short { length given.now ≤ 64 }
-    requires wanted_short { length wanted.now ≤ 64 }
-    ensures { out.new ≡ with_example out.old e given.now wanted.now }
+    requires short { short_example (the_example example.now) ≡ true }
+    ensures { out.new ≡ with_example out.old e example.now.given.now example.now.wanted.now }
 {
-    out[130 * e] = given.len() as u64;
-    out[130 * e + 1] = wanted.len() as u64;
-    put_text(out, 130 * e + 2, given);
-    put_text(out, 130 * e + 66, wanted);
+    out[EXAMPLE * e] = example.given.len() as u64;
+    out[EXAMPLE * e + 1] = example.wanted.len() as u64;
+    put_text(out, EXAMPLE * e + GIVEN, example.given);
+    put_text(out, EXAMPLE * e + WANTED, example.wanted);
 }
 
 // Lays down the texts of all examples.
@@ -39,6 +43,6 @@ pub(crate) fn lay_texts(out: &mut [u64], examples: &[Example])
     ensures { out.new ≡ texts_laid (the_examples examples.now) (length examples.now) out.old }
 {
     for (e, example) in examples.iter().enumerate() {
-        put_example(out, e, example.given, example.wanted);
+        put_example(out, e, example);
     }
 }

@@ -1,4 +1,4 @@
-use Rattle.std.proofs.Common.{sym, refl, arith}
+use Rattle.std.proofs.Common.{take, sym, refl, ap, ◌∙◌, arith}
 use Rattle.candidates.proofs.KindsCollected.{collected_none, collected_more, collected_absent, collected_none_there, collected_all}
 use Rattle.candidates.proofs.kinds.kinds_in.Goals as goal
 use Rattle.candidates.proofs.kinds.kinds_in.Goals.{in-Some+then-stands_in, in-Some+else-stands_in, in_default}
@@ -6,13 +6,16 @@ use Rattle.candidates.proofs.kinds.kinds_in.Goals.{in-Some+then-stands_in, in-So
 pub loop-number-init : goal.loop-number-init
 loop-number-init c = collected_none _ _ refl
 
+pub push-requires : goal.push-requires
+push-requires c = let few = c.loop-number.invariant.few in record { room = omega arith }
+
 pub loop-number-preserved : goal.loop-number-preserved
 loop-number-preserved c =
     elim c.match-numbered.branch [
-      | in-Some+then-stands_in w ↦ collected_more _ _ _ _ c.loop-number.invariant _ _ _ c.loop-number-test.true w.in-Some.ensures.0 w.in-Some.ensures.1 (sym w.if-stands_in.ensures) w.list-is w.count-is
-      | in-Some+else-stands_in w ↦ collected_absent _ _ _ _ c.loop-number.invariant _ _ _ w.in-Some.ensures.0 w.in-Some.ensures.1 (sym w.if-stands_in.ensures) w.list-is w.count-is
-      | in_default w ↦ collected_none_there _ _ _ _ c.loop-number.invariant _ _ w.in_default.ensures w.list-is w.count-is
+      | in-Some+then-stands_in w ↦ collected_more _ _ _ c.loop-number.invariant _ _ w.in-Some.ensures.0 w.in-Some.ensures.1 (sym w.if-stands_in.ensures) (ap (λ k. k.count) w.kinds-is ∙ w.push.ensures.count) (ap (λ k. take k.count k.list) w.kinds-is ∙ w.push.ensures.pushed)
+      | in-Some+else-stands_in w ↦ collected_absent _ _ _ c.loop-number.invariant _ _ w.in-Some.ensures.0 w.in-Some.ensures.1 (sym w.if-stands_in.ensures) w.kinds-is
+      | in_default w ↦ collected_none_there _ _ _ c.loop-number.invariant _ w.in_default.ensures w.kinds-is
     ]
 
 pub returns : goal.returns
-returns c = let few = c.loop-number.invariant.few in record { few = omega arith; all = collected_all _ _ _ _ c.loop-number.invariant (omega arith) }
+returns c = collected_all _ _ _ c.loop-number.invariant (omega arith)

@@ -1,18 +1,14 @@
-use Rattle.std.proofs.Common.{sym, ◌∙◌}
-use Rattle.candidates.proofs.KindsCollected.{any_kind, unseen_none, unseen_more, unseen_all, seen}
+use Rattle.std.proofs.Common.{◌≡◌, rules, tests}
+use Rattle.std.proofs.lemmas.Iterator.{YieldsList-from_slice}
+use Rattle.std.proofs.lemmas.Iterator.Search.{any_from_yields_List}
+use Rattle.rules.specs.declared.kind.Kind.TheVariants.{Anything}
+use Rattle.rules.specs.Places.{of_kind}
+use Rattle.rules.specs.Values.{kind_number}
+use Rattle.candidates.proofs.KindsCollected.{some_byte, zero_is}
 use Rattle.candidates.proofs.kinds.stands_in.Goals as goal
 
-pub loop-byte-init : goal.loop-byte-init
-loop-byte-init c = unseen_none _ _ (λ e. c.if-number-eq0.false (c.number.ensures.value ∙ e))
-
-pub loop-byte-preserved : goal.loop-byte-preserved
-loop-byte-preserved c = unseen_more _ _ _ c.loop-byte.invariant c.loop-byte-test.true (sym c.if-has.ensures)
-
-pub returns-then-has : goal.returns-then-has
-returns-then-has c = seen _ _ _ c.loop-byte.invariant c.loop-byte-test.true (sym c.if-has.ensures)
-
-pub returns-then-number-eq0 : goal.returns-then-number-eq0
-returns-then-number-eq0 c = any_kind c.args.text.now _ (sym c.number.ensures.value ∙ c.if-number-eq0.true)
-
-pub returns : goal.returns
-returns c = unseen_all _ _ _ c.loop-byte.invariant c.loop-byte-test.false
+pub returns-else-eq : goal.returns-else-eq
+returns-else-eq c =
+    let other : c.args.kind ≡ Anything → ⊥ = λ e. search rules in
+    some_byte c.args.text.now (kind_number c.args.kind) c.any.result (λ z. other (zero_is c.args.kind z))
+    (any_from_yields_List (λ b. of_kind (kind_number c.args.kind) b) _ _ c.any.result c.any.ensures.ran (YieldsList-from_slice c.args.text.now cc) (λ x b q k. search (rules, tests)))

@@ -1,7 +1,7 @@
 -- Each example's texts are laid down in their place.
 use Rattle.std.proofs.Common.{refl, arith}
 use Rattle.candidates.specs.LaidProblem.{texts_laid}
-use Rattle.candidates.proofs.ExamplesRead.{short_read}
+use Rattle.candidates.proofs.ExamplesRead.{example_short}
 use Rattle.candidates.proofs.TextsLaid.{texts_goes_on}
 use Rattle.candidates.proofs.texts.lay_texts.Goals as goal
 
@@ -9,10 +9,8 @@ pub loop-e-init : goal.loop-e-init
 unfolding texts_laid
 loop-e-init c = refl
 
-pub put_example-requires : goal.put_example-requires
-put_example-requires c =
-    let few = short_read c.args.examples.now c.loop-e.e _ (omega arith) c.requires.short in
-    record { size = omega arith; one_of_eight = omega arith; given_short = few.0; wanted_short = few.1 }
-
 pub loop-e-preserved : goal.loop-e-preserved
 loop-e-preserved c = texts_goes_on c.args.examples.now c.args.out.now c.loop-e.out c.put_example.new.out c.loop-e.e _ (omega arith) c.put_example.ensures c.loop-e.invariant
+
+pub put_example-requires-clause-short : goal.put_example-requires-clause-short
+put_example-requires-clause-short c = example_short c.args.examples.now c.loop-e.e _ c.loop-e-test.true c.requires.short
