@@ -29,8 +29,10 @@ from the line between two places:
 fn apply(rt: &HostRuntime, rule: &str, file: &str) -> Result<(), Refusal> {
     let heap = rt.alloc();
     let rule = read_rule(heap, rule.as_bytes())?;
-    let bytes = fs::read(rt, file)
-        .try_map_err(|error| Ok(Refusal::File(String::from_str(heap, file)?, error)))?;
+    let bytes = fs::read(rt, file).try_map_err(|error| {
+        let name = String::from_str(heap, file)?;
+        Ok(Refusal::File(name, error))
+    })?;
     let table = carry_out(heap, &rule, bytes.as_slice())?;
     rt.stdout().write_all(table.rows.as_slice())?;
     report(rt, &table)?;

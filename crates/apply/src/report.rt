@@ -13,7 +13,9 @@ fn report_miss(rt: &impl Eprint, miss: &Miss) -> io::Result<()> {
 }
 
 pub fn report(rt: &impl Eprint, table: &Table) -> io::Result<()> {
-    eprintln!(rt; "{} lines, of {} nothing was made", table.lines, table.missed.len())?;
+    let lines = table.lines;
+    let missed = table.missed.len();
+    eprintln!(rt; "{lines} lines, of {missed} nothing was made")?;
     for miss in &table.missed {
         report_miss(rt, miss)?;
     }
