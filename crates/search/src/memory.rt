@@ -1,13 +1,22 @@
-// How a status and a frame lie in memory.
+// How a machine lies in memory.
 ghost use Rattle.std.specs.Prelude.{◌≡◌, ◌+◌, ◌≤◌, length, drop};
 ghost use Rattle.rules.specs.Answers.{written};
-ghost use Rattle.search.specs.Memory.{status_number, status_from, frame_numbers, frame_from};
+ghost use Rattle.search.specs.Memory.{status_number, status_from, frame_numbers, frame_from, loaded, stored};
+ghost use Rattle.search.specs.Holds.{the_held};
 
 use crate::frame::Frame;
+use crate::machine::{FAR, LIMIT, MOST_PARTS, Machine};
 use crate::status::Status;
+use std::array;
+
+// How far the search has come, the budget, the shortfall, and how many frames are in use.
+const HEAD: usize = 4;
 
 // The numbers of a frame: nine positions, what is left of the budget, and the next candidate.
-pub(crate) const FRAME: usize = 11;
+const FRAME: usize = 11;
+
+// The numbers of a machine.
+pub(crate) const MACHINE: usize = HEAD + MOST_PARTS * FRAME;
 
 impl From<Status> for u64 {
     ghost from_gives = { λ s n. n ≡ status_number s };
@@ -36,7 +45,7 @@ impl From<u64> for Status {
 
 impl Frame {
     // The frame that lies in memory from `at` on.
-    pub(crate) fn at(memory: &[u64], at: usize) -> Frame
+    fn at(memory: &[u64], at: usize) -> Frame
         requires { at + FRAME ≤ length memory.now }
         ensures { result ≡ frame_from (drop at memory.now) }
     {
@@ -50,7 +59,7 @@ impl Frame {
     }
 
     // Lays the frame down in memory from `at` on.
-    pub(crate) fn put(&self, memory: &mut [u64], at: usize)
+    fn put(&self, memory: &mut [u64], at: usize)
         requires { at + FRAME ≤ length memory.old }
         ensures laid { memory.new ≡ written memory.old at (frame_numbers self.now) }
         // The type says it too, but a caller does not see that of an element.
@@ -58,5 +67,38 @@ impl Frame {
     {
         memory[at..at + 9].copy_from_slice(&self.state);
         memory[at + 9..at + FRAME].copy_from_slice(&[self.left, self.index]);
+    }
+}
+
+impl Machine {
+    // The machine that lies in memory; numbers that no search leaves there are cut down to those that one can.
+    pub(crate) fn load(memory: &[u64]) -> Machine
+        requires { MACHINE ≤ length memory.now }
+        ensures { the_held result ≡ loaded memory.now }
+    {
+        Machine {
+            status: memory[0].into(),
+            budget: memory[1].min(LIMIT),
+            short: memory[2].min(FAR),
+            depth: (memory[3] as usize).min(MOST_PARTS),
+            frames: array::from_fn(|i| Frame::at(memory, HEAD + FRAME * i)),
+        }
+    }
+
+    // Lays the machine down in memory.
+    pub(crate) fn store(&self, memory: &mut [u64])
+        requires { MACHINE ≤ length memory.old }
+        ensures { memory.new ≡ stored (the_held self.now) memory.old }
+    {
+        let head = [
+            self.status.into(),
+            self.budget,
+            self.short,
+            self.depth as u64,
+        ];
+        memory[..HEAD].copy_from_slice(&head);
+        for (i, frame) in self.frames.iter().enumerate() {
+            frame.put(memory, HEAD + FRAME * i);
+        }
     }
 }

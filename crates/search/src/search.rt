@@ -2,17 +2,9 @@
 ghost use Rattle.std.specs.Prelude.{◌≡◌, true, length};
 ghost use Rattle.search.specs.Memory.{memory_size};
 
-use crate::frame::Frame;
-use crate::machine::{FAR, LIMIT, MOST_PARTS, Machine};
-use crate::memory::FRAME;
+use crate::machine::Machine;
+use crate::memory::MACHINE;
 use candidates::{Example, Problem, lay};
-use std::array;
-
-// How far the search has come, the budget, the shortfall, and how many frames are in use.
-const HEAD: usize = 4;
-
-// Behind the frames lies the problem.
-const PROBLEM: usize = HEAD + MOST_PARTS * FRAME;
 
 // So many numbers of memory a search takes.
 pub const MEMORY: usize = 109958;
@@ -45,7 +37,7 @@ impl<'a> Search<'a> {
     pub(crate) fn problem(&self) -> Problem<'_>
         ensures { the_view result ≡ problem_in (the_memory self.now) }
     {
-        Problem::of(&self.memory[PROBLEM..MEMORY])
+        Problem::of(&self.memory[MACHINE..MEMORY])
     }
 
     // Lays down the problem of the examples.
@@ -54,20 +46,14 @@ impl<'a> Search<'a> {
         ensures same_reference { (lent self.new).ghost_name ≡ (lent self.old).ghost_name }
         ensures memory { the_memory self.new ≡ with_problem (the_examples examples.now) (the_memory self.old) }
     {
-        lay(&mut self.memory[PROBLEM..MEMORY], examples, None);
+        lay(&mut self.memory[MACHINE..MEMORY], examples, None);
     }
 
-    // The machine, as it lies in memory; numbers that no search leaves there are cut down to those that one can.
+    // The machine, as it lies in memory.
     pub(crate) fn machine(&self) -> Machine
         ensures { the_held result ≡ loaded (the_memory self.now) }
     {
-        Machine {
-            status: self.memory[0].into(),
-            budget: self.memory[1].min(LIMIT),
-            short: self.memory[2].min(FAR),
-            depth: (self.memory[3] as usize).min(MOST_PARTS),
-            frames: array::from_fn(|i| Frame::at(self.memory, HEAD + FRAME * i)),
-        }
+        Machine::load(self.memory)
     }
 
     // Lays the machine down.
@@ -75,15 +61,6 @@ impl<'a> Search<'a> {
         ensures same_reference { (lent self.new).ghost_name ≡ (lent self.old).ghost_name }
         ensures memory { the_memory self.new ≡ stored (the_held machine.now) (the_memory self.old) }
     {
-        let head = [
-            machine.status.into(),
-            machine.budget,
-            machine.short,
-            machine.depth as u64,
-        ];
-        self.memory[..HEAD].copy_from_slice(&head);
-        for (i, frame) in machine.frames.iter().enumerate() {
-            frame.put(self.memory, HEAD + FRAME * i);
-        }
+        machine.store(self.memory);
     }
 }
