@@ -10,8 +10,7 @@ use Rattle.rules.specs.Values.{kind_number}
 use Rattle.candidates.specs.declared.question.Question.{Question}
 use Rattle.candidates.specs.declared.table.Table as declared
 use Rattle.candidates.specs.Places.{both_ways, places_between, places_behind, places_among, counted, places_in, kinds_in}
-use Rattle.candidates.specs.RowTable.{Table}
-use Rattle.candidates.specs.Tables.{the_table, Becomes, all_tried_for, first_of}
+use Rattle.candidates.specs.Tables.{the_table, Becomes, all_tried_for}
 use Rattle.candidates.specs.Weights.{smaller}
 use Rattle.candidates.proofs.KindsCollected.{zero_is}
 use Rattle.candidates.proofs.TriedInTurn.{tried_more, tried_same, tried_end, Tried, of_kinds, kinds_next, kinds_end}

@@ -2,7 +2,7 @@
 use Rattle.std.proofs.Common.{◌≡◌, ℕ, List, ◌++◌, length, take, drop, set, sym, ap, ◌∙◌, arith, length-drop}
 use Rattle.std.proofs.lemmas.List.{take_all, drop-drop}
 use Rattle.rules.specs.Examples.{Example}
-use Rattle.candidates.specs.RowTable.{Table, table_for}
+use Rattle.candidates.specs.RowTable.{table_for}
 use Rattle.candidates.specs.Guide.{all_costs, guides_laid}
 use Rattle.candidates.specs.LaidProblem.{texts_laid, problem_with, laid_problem}
 

@@ -1,5 +1,5 @@
 -- The rows of a table, read as arrays of 16 numbers: what one of them holds, and the first that lies like another.
-use Rattle.std.proofs.Common.{◌≡◌, ℕ, zero, suc, ◌+◌, ◌-◌, ◌*◌, ◌<◌, ◌≤◌, Bool, true, false, cond, not, eqb, ltb, ◌⊎◌, List, [], ◌∷◌, length, get_or, take, drop, Some, None, Option, MatchOption, Decides, sym, refl, ap, ◌∙◌, subst, ap₂, inl, inr, arith, length-drop}
+use Rattle.std.proofs.Common.{◌≡◌, ℕ, zero, suc, ◌+◌, ◌*◌, ◌<◌, ◌≤◌, Bool, true, false, cond, not, eqb, ltb, ◌⊎◌, List, ◌∷◌, length, get_or, take, drop, Some, None, Option, Decides, sym, refl, ap, ◌∙◌, subst, ap₂, inl, inr, arith, length-drop}
 use Rattle.std.specs.List.{position, position_or_len}
 use Rattle.std.specs.Cmp.Lexicographic.{pointwise}
 use Rattle.std.specs.Simd.{first_chunks}
@@ -9,7 +9,7 @@ use Rattle.std.proofs.lemmas.Bool.{lt-ltb, le-ltb, cases_lt}
 use Rattle.std.proofs.lemmas.List.Sums.{prefix_len-le-length}
 use Rattle.std.proofs.lemmas.Bool.Decides.{same_from_decides, Decides-eqb}
 use Rattle.rules.specs.Lists.{pick, same}
-use Rattle.candidates.specs.RowTable.{Table, row_at, row_number, alike, alike_at}
+use Rattle.candidates.specs.RowTable.{row_at, row_number, alike, alike_at}
 use Rattle.candidates.specs.Tables.{IsFirstAlike}
 
 same_decides : (xs ys : List ℕ) → Decides (same xs ys) (xs ≡ ys)

@@ -9,7 +9,9 @@ use crate::example::Example;
 
 // An example's numbers, and where its texts begin among them, behind their two lengths.
 const EXAMPLE: usize = 130;
+
 const GIVEN: usize = 2;
+
 const WANTED: usize = 66;
 
 // Lays down a text from a position on.

@@ -6,9 +6,6 @@ use Rattle.candidates.proofs.kinds.kinds_in.Goals.{in-Some+then-stands_in, in-So
 pub loop-number-init : goal.loop-number-init
 loop-number-init c = collected_none _ _ refl
 
-pub push-requires : goal.push-requires
-push-requires c = let few = c.loop-number.invariant.few in record { room = omega arith }
-
 pub loop-number-preserved : goal.loop-number-preserved
 loop-number-preserved c =
     elim c.match-numbered.branch [

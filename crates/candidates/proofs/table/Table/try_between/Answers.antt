@@ -1,4 +1,4 @@
-use Rattle.std.proofs.Common.{◌≡◌, rules, sym, ap, ◌∙◌, append-nil, arith}
+use Rattle.std.proofs.Common.{◌≡◌, rules, ap, ◌∙◌, arith}
 use Rattle.rules.specs.declared.kind.Kind.TheVariants.{Anything}
 use Rattle.rules.specs.Lists.{flat, up_to}
 use Rattle.rules.specs.Values.{kind_number}
@@ -17,9 +17,6 @@ returns-then-eq-2 c =
 pub loop-n-init : goal.loop-n-init
 unfolding up_to
 loop-n-init c = tried_none _ _
-
-pub loop-back-init : goal.loop-back-init
-loop-back-init c = tried_same _ _ _ _ _ c.loop-n.invariant (append-nil _)
 
 pub loop-back-preserved : goal.loop-back-preserved
 loop-back-preserved c =

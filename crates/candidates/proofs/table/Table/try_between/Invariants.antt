@@ -1,6 +1,5 @@
-use Rattle.std.proofs.Common.{◌+◌, true, false, [], ◌∷◌, ◌++◌, take}
-use Rattle.rules.specs.Lists.{each, flat, up_to}
-use Rattle.rules.specs.Places.{nth_of}
+use Rattle.std.proofs.Common.{◌++◌, take}
+use Rattle.rules.specs.Lists.{flat, up_to}
 use Rattle.rules.specs.Values.{kind_number}
 use Rattle.candidates.specs.Places.{both_ways}
 use Rattle.candidates.proofs.TriedInTurn.{Tried}
