@@ -9,7 +9,8 @@ use Rattle.candidates.specs.Rows.{lies_in_all}
 use Rattle.candidates.specs.Values.{the_examples}
 
 -- one example more is one number more
-positions_suc : (p : Place) (es : List Example) (n i : ℕ) (d : Example) → i < length es → i < n → set (positions_in (the_examples (take i es)) n p) i (position (get_or es i d).given.now p) ≡ positions_in (the_examples (take (suc i) es)) n p
+positions_suc : (p : Place) (es : List Example) (n i : ℕ) (d : Example) → i < length es → i < n
+    → set (positions_in (the_examples (take i es)) n p) i (position (get_or es i d).given.now p) ≡ positions_in (the_examples (take (suc i) es)) n p
 positions_suc p [] n i d h k = absurd (omega arith)
 positions_suc p (e ∷ es) zero i d h k = absurd (omega arith)
 positions_suc p (e ∷ es) (suc n) zero d h k = refl
@@ -28,6 +29,7 @@ module _ (p : Place) (es : List Example) where
     -- the place is there in this text
     pub noted_more : (x : ℕ) → length es ≤ 8 → x ∷ [] ≡ spot (get_or es i d).given.now p → Noted (i + 1) (set at i x)
     noted_more x few e = record {
-      is = ap₂ (λ l y. set l i y) n.is (ap (λ l. get_or l 0 255) e) ∙ positions_suc p es 8 i d h (omega arith) ∙ ap (λ k. positions_in (the_examples (take k es)) 8 p) (let k : suc i ≡ i + 1 = omega arith in k);
+      is = ap₂ (λ l y. set l i y) n.is (ap (λ l. get_or l 0 255) e) ∙ positions_suc p es 8 i d h (omega arith)
+          ∙ ap (λ k. positions_in (the_examples (take k es)) 8 p) (let k : suc i ≡ i + 1 = omega arith in k);
       decide = next ∙ ap (λ l. not (none_of l) && lies_in_all (the_examples (drop (i + 1) es)) p) (sym e);
     }

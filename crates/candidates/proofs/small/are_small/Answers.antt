@@ -9,4 +9,5 @@ use Rattle.candidates.proofs.small.are_small.Goals as goal
 pub returns-then-examples-le-MOST_EXAMPLES : goal.returns-then-examples-le-MOST_EXAMPLES
 returns-then-examples-le-MOST_EXAMPLES c =
     few_small c.args.examples.now c.all.result (omega arith)
-    (all_from_yields_List (λ e. small_example (the_example e)) _ _ c.all.result c.all.ensures.ran (YieldsList-from_slice c.args.examples.now cc) (λ x b q k. search (rules, tests)))
+    (all_from_yields_List (λ e. small_example (the_example e)) _ _ c.all.result c.all.ensures.ran (YieldsList-from_slice c.args.examples.now cc)
+    (λ x b q k. search (rules, tests)))

@@ -26,11 +26,13 @@ loop-back-preserved c =
 pub loop-n-preserved : goal.loop-n-preserved
 loop-n-preserved c =
     tried_same _ _ _ _ _ c.loop-back.invariant
-    (flat_next (both_ways (kind_number c.args.left) (kind_number c.args.right)) c.loop-n.n ∙ ways_all (kind_number c.args.left) (kind_number c.args.right) c.loop-n.n c.loop-back.back-index _ c.loop-back-test.false)
+    (flat_next (both_ways (kind_number c.args.left) (kind_number c.args.right)) c.loop-n.n
+    ∙ ways_all (kind_number c.args.left) (kind_number c.args.right) c.loop-n.n c.loop-back.back-index _ c.loop-back-test.false)
 
 pub returns : goal.returns
 returns c =
-    let other : c.args.left ≡ Anything → c.args.right ≡ Anything → ⊥ = λ e f. elim c.else-eq.branch [ else-eq-via-then-eq+else-eq-2 w ↦ search rules | else-eq-via-else-eq w ↦ search rules ] in
+    let other : c.args.left ≡ Anything → c.args.right ≡ Anything
+    → ⊥ = λ e f. elim c.else-eq.branch [ else-eq-via-then-eq+else-eq-2 w ↦ search rules | else-eq-via-else-eq w ↦ search rules ] in
     let all : c.loop-n.n ≡ c.fits-n-end.result = omega arith in
     tried_end c.args.question _ _ _ _ c.loop-n.invariant
     (ap (λ m. flat (both_ways (kind_number c.args.left) (kind_number c.args.right)) (up_to m)) all

@@ -10,4 +10,6 @@ invariant-loop-n l = Tried l.question l.fn.self (flat (both_ways (kind_number l.
 
 abbrev pub invariant-loop-back : goal.invariant-loop-back
 invariant-loop-back l =
-    Tried l.question l.fn.self (flat (both_ways (kind_number l.left) (kind_number l.right)) (up_to l.n) ++ take l.back-index (both_ways (kind_number l.left) (kind_number l.right) l.n)) l.self
+    Tried l.question l.fn.self
+    (flat (both_ways (kind_number l.left) (kind_number l.right)) (up_to l.n) ++ take l.back-index
+    (both_ways (kind_number l.left) (kind_number l.right) l.n)) l.self
