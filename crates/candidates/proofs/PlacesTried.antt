@@ -74,7 +74,8 @@ pub all_places : (q : Question) (start first then : declared.Table) (t ks : List
 unfolding places_in
 all_places q start first then t ks k b c =
     let tried : Tried q start counted first = record { is = b.is; same_reference = b.same_reference } in
-    let all : counted ++ places_among t ks ≡ places_in t = append_assoc (each (λ n. from_first n) (up_to 65)) (each (λ n. from_last n) (up_to 65))
-    (places_among t ks) ∙ ap (λ x. each (λ n. from_first n) (up_to 65) ++ (each (λ n. from_last n) (up_to 65) ++ places_among t x)) k in
+    let front = each (λ n. from_first n) (up_to 65) in
+    let behind = each (λ n. from_last n) (up_to 65) in
+    let all : counted ++ places_among t ks ≡ places_in t = append_assoc front behind (places_among t ks) ∙ ap (λ x. front ++ (behind ++ places_among t x)) k in
     tried_end q start then (counted ++ places_among t ks) (places_in t)
     (tried_more q start first then counted (places_among t ks) (counted ++ places_among t ks) tried c refl) all

@@ -26,6 +26,6 @@ module _ (ns head r texts rest guide table : List ℕ) (size : length ns ≡ 109
       ∙ ap (λ l. set (set (take 16 ns) 0 n) 1 rows ++ (l ++ (G ++ B))) (texts_are ∙ ap (texts_laid es n) (t ∙ ap (take 1170) after))
       ∙ ap (λ l. set (set (take 16 ns) 0 n) 1 rows ++ (texts_laid es n (take 1170 (drop 16 ns)) ++ (l ++ B)))
       (guide_as ∙ ap (λ l. guides_laid l es n guide) costs ∙ ap (guides_laid (all_costs B rows) es n) guide_is)
-      ∙ ap (λ m. set (set (take 16 ns) 0 m) 1 rows ++
-      (texts_laid es m (take 1170 (drop 16 ns)) ++ (guides_laid (all_costs B rows) es m (take 4680 (drop 1186 ns)) ++ B))) many
+      ∙ ap (λ m. set (set (take 16 ns) 0 m) 1 rows ++ (texts_laid es m (take 1170 (drop 16 ns)) ++ (guides_laid (all_costs B rows) es m (take 4680 (drop 1186 ns)) ++ B)))
+      many
       ∙ ap (λ k. problem_with es k ns) (table_as ∙ ap (table_for es asked) table_is)
