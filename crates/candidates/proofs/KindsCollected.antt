@@ -1,5 +1,5 @@
 -- Going through the kinds by their numbers collects those that stand in a text.
-use Rattle.std.proofs.Common.{◌≡◌, ℕ, suc, ◌+◌, ◌<◌, ◌≤◌, Bool, true, false, ◌&&◌, ◌||◌, List, [], ◌∷◌, ◌++◌, take, sym, refl, ap, ◌∙◌, ap₂, append-nil, arith}
+use Rattle.std.proofs.Common.{◌≡◌, ℕ, suc, ◌+◌, ◌≤◌, Bool, true, false, ◌&&◌, ◌||◌, List, [], ◌∷◌, ◌++◌, take, sym, refl, ap, ◌∙◌, ap₂, append-nil, arith}
 use Rattle.std.specs.List.{list_any}
 use Rattle.std.proofs.lemmas.Bool.{ne_eqb}
 use Rattle.rules.specs.declared.kind.Kind.{Kind}
@@ -52,7 +52,8 @@ module _ (t : List ℕ) where
 
   module _ (n : ℕ) (kinds : Kinds) (c : Collected n kinds) where
     -- one is put behind them
-    pub collected_more : (x : Kind) (after : Kinds) → kind_number x ≡ n → a_kind n ≡ true → stands_in t (kind_number x) ≡ true → after.count ≡ kinds.count + 1 → take after.count after.list ≡ take kinds.count kinds.list ++ x ∷ [] → Collected (n + 1) after
+    pub collected_more : (x : Kind) (after : Kinds) → kind_number x ≡ n → a_kind n ≡ true → stands_in t (kind_number x) ≡ true → after.count ≡ kinds.count + 1
+        → take after.count after.list ≡ take kinds.count kinds.list ++ x ∷ [] → Collected (n + 1) after
     collected_more x after e a s m f =
         let few = c.few in
         let yes_wanted : wanted n ≡ true = ap₂ (λ b d. b && d) a (ap (stands_in t) (sym e) ∙ s) in
@@ -67,11 +68,13 @@ module _ (t : List ℕ) where
         let few = c.few in
         record {
           few = omega (arith, ap (λ k. k.count) f);
-          is = ap (λ k. each kind_number (take k.count k.list)) f ∙ c.is ∙ sym (those_next n ∙ ap (λ b. those wanted (up_to n) ++ pick b (n ∷ []) []) w ∙ append-nil (those wanted (up_to n)));
+          is = ap (λ k. each kind_number (take k.count k.list)) f ∙ c.is
+              ∙ sym (those_next n ∙ ap (λ b. those wanted (up_to n) ++ pick b (n ∷ []) []) w ∙ append-nil (those wanted (up_to n)));
         }
 
     -- it is a kind, and does not stand in the text
-    pub collected_absent : (x : Kind) (after : Kinds) → kind_number x ≡ n → a_kind n ≡ true → stands_in t (kind_number x) ≡ false → after ≡ kinds → Collected (n + 1) after
+    pub collected_absent : (x : Kind) (after : Kinds) → kind_number x ≡ n → a_kind n ≡ true → stands_in t (kind_number x) ≡ false → after ≡ kinds
+        → Collected (n + 1) after
     collected_absent x after e a s f = collected_same after (ap₂ (λ b d. b && d) a (ap (stands_in t) (sym e) ∙ s)) f
 
     -- it is no kind

@@ -48,7 +48,6 @@ pub mod GuideInMemory
 pub mod GuidesLaid
 pub mod GuideOfTable
 pub mod ExamplesRead
-pub mod TextPut
 pub mod SameFronts
 pub mod TextsLaid
 pub mod FourParts

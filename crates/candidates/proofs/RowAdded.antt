@@ -1,5 +1,5 @@
 -- Each way in which a row is added, or not, is as `added` says.
-use Rattle.std.proofs.Common.{◌≡◌, ℕ, ◌+◌, ◌-◌, ◌<◌, ◌≤◌, ltb, List, get_or, sym, refl, ap, ◌∙◌, arith}
+use Rattle.std.proofs.Common.{◌≡◌, ℕ, ◌+◌, ◌<◌, ◌≤◌, ltb, List, get_or, sym, refl, ap, ◌∙◌, arith}
 use Rattle.std.proofs.lemmas.Bool.{lt-ltb, le-ltb}
 use Rattle.rules.specs.Lists.{pick}
 use Rattle.candidates.specs.declared.table.Table as declared
@@ -32,7 +32,8 @@ module _ (t : Table) (x : List ℕ) where
     behind : added t x ≡ pushed t x
     unfolding added
     behind =
-        ap (added_at t x) e ∙ ap (λ b. pick b (pick (ltb (get_or x 5 0) (row_number t.numbers t.rows 5)) (in_place_of t t.rows x) t) (pushed t x)) (le-ltb t.rows t.rows (omega arith))
+        ap (added_at t x) e ∙ ap (λ b. pick b (pick (ltb (get_or x 5 0) (row_number t.numbers t.rows 5)) (in_place_of t t.rows x) t) (pushed t x))
+        (le-ltb t.rows t.rows (omega arith))
 
     pub added_behind : t.rows < most_rows → table (with_row t.numbers t.rows x) (t.rows + 1) ≡ added t x
     added_behind k = sym (behind ∙ ap (λ b. pick b (table (with_row t.numbers t.rows x) (t.rows + 1)) t) (lt-ltb _ _ k))

@@ -1,8 +1,8 @@
 -- The table of rows that is laid down for some examples is right: it has, in the order of spelling, a row for each place that is there in all given texts.
-use Rattle.std.proofs.Common.{◌≡◌, ℕ, ◌+◌, ◌<◌, ◌≤◌, true, false, ltb, leb, List, [], ◌∷◌, length, get_or, drop, sym, refl, ap, ◌∙◌, subst, subst₂, append-nil, arith, length-append}
+use Rattle.std.proofs.Common.{◌≡◌, ℕ, ◌+◌, ◌<◌, ◌≤◌, true, false, ltb, leb, List, [], ◌∷◌, length, get_or, drop, sym, refl, ap, ◌∙◌, subst, subst₂, append-nil, arith}
 use Rattle.std.proofs.lemmas.List.{get_or-drop}
 use Rattle.std.proofs.lemmas.Bool.{and_parts, leb-true, not-true}
-use Rattle.rules.specs.Lists.{every, flat}
+use Rattle.rules.specs.Lists.{every}
 use Rattle.rules.specs.Places.{Place, from_first, spot}
 use Rattle.rules.specs.Rules.{a_place}
 use Rattle.rules.specs.Examples.{Example}
@@ -14,7 +14,7 @@ use Rattle.candidates.proofs.ListMembers.{in_at, every_at}
 use Rattle.candidates.proofs.OrderedLists.{ordered, ordered_at}
 use Rattle.candidates.proofs.PlacesOrdered.{before, places_ordered, places_valid}
 use Rattle.candidates.proofs.PlacesComplete.{places_complete}
-use Rattle.candidates.proofs.TableRows.{laid, laid_long, number_at, whole_at}
+use Rattle.candidates.proofs.TableRows.{laid, number_at, whole_at}
 use Rattle.candidates.proofs.RowNumbers.{lies_there, lies_in_each, row_long, row_place, row_position, row_asked, asked_is}
 use Rattle.candidates.proofs.RowsStandFor.{Covered, unlike}
 use Rattle.candidates.proofs.RowsKept.{Kept, row, lies, all_kept}
@@ -127,15 +127,6 @@ module _ (e : Example) (es : List Example) (asked : List (List ℕ)) (ns : List 
       subst (λ t. GoodRows (e ∷ es) asked (rows_in t.numbers t.rows)) (sym k.is)
       (good (e ∷ es) asked m.0 k.rest few one (ap (ordered before) (sym (append-nil m.0)) ∙ k.fine.0) (ap (every a_place) (sym (append-nil m.0)) ∙ k.fine.1) k.own.0 m.2)
 
-  made_long : Made → length made.numbers ≡ table_size
-  made_long m =
-      let k = m.1 in
-      subst (λ t. length t.numbers ≡ table_size) (sym k.is)
-      (length-append (flat (row (e ∷ es) asked) m.0) k.rest ∙ ap (λ n. n + length k.rest) (laid_long (row (e ∷ es) asked) (row_long (e ∷ es) asked) m.0) ∙ k.size)
-
-  made_few : Made → made.rows ≤ most_rows
-  made_few m = let n = ap (λ t. t.rows) m.1.is in let h = m.1.room in omega arith
-
   made_are : Made → (i : ℕ) → i < made.rows → row_at made.numbers i ≡ row_of (e ∷ es) asked (place_in made.numbers i)
   made_are m =
       subst (λ t. (i : ℕ) → i < t.rows → row_at t.numbers i ≡ row_of (e ∷ es) asked (place_in t.numbers i)) (sym m.1.is)
@@ -149,13 +140,6 @@ module _ (e : Example) (es : List Example) (asked : List (List ℕ)) (ns : List 
   -- the table is right
   pub rows_good : small_examples (e ∷ es) ≡ true → length asked ≤ 1 → length ns ≡ table_size → length (places_in e.given) ≤ most_rows → GoodRows (e ∷ es) asked (rows_in (table_for (e ∷ es) asked ns).numbers (table_for (e ∷ es) asked ns).rows)
   rows_good small one size few = made_good (done size few) (leb-true (length (e ∷ es)) 8 (and_parts (leb (length (e ∷ es)) 8) (every small_example (e ∷ es)) small).0) one
-
-  -- as many numbers as before, and no more rows than there is room for
-  pub table_long : length ns ≡ table_size → length (places_in e.given) ≤ most_rows → length (table_for (e ∷ es) asked ns).numbers ≡ table_size
-  table_long size few = made_long (done size few)
-
-  pub rows_few : length ns ≡ table_size → length (places_in e.given) ≤ most_rows → (table_for (e ∷ es) asked ns).rows ≤ most_rows
-  rows_few size few = made_few (done size few)
 
   -- each row is that of its place
   pub rows_are : length ns ≡ table_size → length (places_in e.given) ≤ most_rows → (i : ℕ) → i < (table_for (e ∷ es) asked ns).rows → row_at (table_for (e ∷ es) asked ns).numbers i ≡ row_of (e ∷ es) asked (place_in (table_for (e ∷ es) asked ns).numbers i)

@@ -1,5 +1,5 @@
 -- The rows behind one are moved down by one, all at once; and a row is put over another.
-use Rattle.std.proofs.Common.{◌≡◌, ℕ, zero, suc, ◌+◌, ◌-◌, ◌*◌, ◌<◌, ◌≤◌, List, ◌++◌, length, take, drop, sym, refl, ap, ◌∙◌, append_assoc, arith, length-drop, length-append}
+use Rattle.std.proofs.Common.{◌≡◌, ℕ, zero, suc, ◌+◌, ◌-◌, ◌*◌, ◌<◌, ◌≤◌, List, ◌++◌, length, take, drop, sym, ap, ◌∙◌, append_assoc, arith, length-drop, length-append}
 use Rattle.std.specs.List.{copy_within}
 use Rattle.std.proofs.Math.Seq.{take-add}
 use Rattle.std.proofs.lemmas.List.{take-append-drop, take_at, drop_at, drop-drop, length-take-le}
@@ -63,7 +63,8 @@ moved_is t i (suc m) h =
     behind n = sym (drop-drop n (16 * i + 16) once) ∙ ap (drop n) (ap (drop (16 * i + 16)) split ∙ drop_at (A ++ r) D (16 * i + 16) both_long)
 
 -- as the slice's method copies them
-pub copied_down : (t : List ℕ) (i rows : ℕ) → i < rows → 16 * rows ≤ length t → copy_within t (16 * (i + 1)) (16 * rows) (16 * i) ≡ moved_down t i (rows - (i + 1))
+pub copied_down : (t : List ℕ) (i rows : ℕ) → i < rows → 16 * rows ≤ length t
+    → copy_within t (16 * (i + 1)) (16 * rows) (16 * i) ≡ moved_down t i (rows - (i + 1))
 copied_down t i rows h k =
     let many : 16 * rows - 16 * (i + 1) ≡ 16 * (rows - (i + 1)) = omega arith in
     let behind : 16 * (i + 1) ≡ 16 * i + 16 = omega arith in

@@ -1,7 +1,7 @@
--- More than eight examples are not small, whatever they are; up to eight are if each is.
-use Rattle.std.proofs.Common.{◌≡◌, ℕ, ◌<◌, ◌≤◌, Bool, true, false, ◌&&◌, leb, List, [], ◌∷◌, length, sym, refl, ap, ◌∙◌}
+-- Up to eight examples are small if each is.
+use Rattle.std.proofs.Common.{◌≡◌, ◌≤◌, Bool, ◌&&◌, leb, List, [], ◌∷◌, length, sym, refl, ap, ◌∙◌}
 use Rattle.std.specs.List.{list_all}
-use Rattle.std.proofs.lemmas.Bool.{le-leb, lt-leb}
+use Rattle.std.proofs.lemmas.Bool.{le-leb}
 use Rattle.rules.specs.Lists.{every}
 use Rattle.rules.proofs.EachElement.{each_length}
 use Rattle.candidates.specs.declared.example.Example.{Example}
@@ -17,8 +17,3 @@ all_every (e ∷ es) = ap (λ b. small_example (the_example e) && b) (all_every 
 
 pub few_small : (es : List Example) (b : Bool) → length es ≤ 8 → b ≡ list_all (λ e. small_example (the_example e)) es → b ≡ small_examples (the_examples es)
 few_small es b h e = e ∙ all_every es ∙ sym (all_of_them es ∙ ap (λ b. b && every small_example (the_examples es)) (le-leb (length es) 8 h))
-
-pub many_not_small : (es : List Example) → 8 < length es → leb (length es) 8 ≡ small_examples (the_examples es)
-many_not_small es h =
-    let more : leb (length es) 8 ≡ false = lt-leb (length es) 8 h in
-    more ∙ sym (all_of_them es ∙ ap (λ b. b && every small_example (the_examples es)) more)

@@ -1,5 +1,5 @@
 -- Trying places one after the other, or list after list, tries them all.
-use Rattle.std.proofs.Common.{◌≡◌, ℕ, suc, ◌+◌, ◌<◌, ◌≤◌, true, false, List, [], ◌∷◌, ◌++◌, length, get_or, take, sym, refl, ap, ◌∙◌, subst, append_assoc, append-nil, arith}
+use Rattle.std.proofs.Common.{◌≡◌, ℕ, suc, ◌+◌, ◌<◌, ◌≤◌, true, false, List, [], ◌∷◌, ◌++◌, length, get_or, take, sym, refl, ap, ◌∙◌, subst, append-nil, arith}
 use Rattle.std.proofs.lemmas.List.{take_all, take_more}
 use Rattle.rules.specs.Lists.{pick, each, flat, up_to}
 use Rattle.rules.specs.Places.{Place}
@@ -17,7 +17,8 @@ use Rattle.candidates.proofs.TableRows.{flat_append}
 
 module _ (q : Question) where
   -- a place is there in every given text, or missing in one
-  pub tried_there : (t : Table) (p : Place) (x : List ℕ) → lies_in_all (examples_of q) p ≡ true → x ≡ row_of (examples_of q) (asked_of q) p → added t x ≡ tried_for q t p
+  pub tried_there : (t : Table) (p : Place) (x : List ℕ) → lies_in_all (examples_of q) p ≡ true → x ≡ row_of (examples_of q) (asked_of q) p
+      → added t x ≡ tried_for q t p
   unfolding tried
   tried_there t p x h e = ap (added t) e ∙ sym (ap (λ b. pick b (added t (row_of (examples_of q) (asked_of q) p)) t) h)
 
@@ -35,7 +36,8 @@ module _ (q : Question) where
   all_tried_one t p = refl
 
   -- then more places, after some
-  pub tried_then : (start now then : Table) (ps qs all : List Place) → now ≡ all_tried_for q start ps → then ≡ all_tried_for q now qs → all ≡ ps ++ qs → then ≡ all_tried_for q start all
+  pub tried_then : (start now then : Table) (ps qs all : List Place) → now ≡ all_tried_for q start ps → then ≡ all_tried_for q now qs → all ≡ ps ++ qs
+      → then ≡ all_tried_for q start all
   tried_then start now then ps qs all e f a = f ∙ ap (λ t. all_tried_for q t qs) e ∙ sym (all_tried_append start ps qs) ∙ ap (all_tried_for q start) (sym a)
 
   pub tried_nothing : (t : Table) → t ≡ all_tried_for q t []
@@ -54,11 +56,13 @@ module _ (q : Question) where
   pub tried_none : (t : declared.Table) → Tried t [] t
   tried_none t = record { is = tried_nothing (the_table t); same_reference = refl }
 
-  pub tried_more : (start now then : declared.Table) (ps qs all : List Place) → Tried start ps now → Becomes now then (all_tried_for q (the_table now) qs) → all ≡ ps ++ qs → Tried start all then
+  pub tried_more : (start now then : declared.Table) (ps qs all : List Place) → Tried start ps now → Becomes now then (all_tried_for q (the_table now) qs)
+      → all ≡ ps ++ qs → Tried start all then
   tried_more start now then ps qs all t b a =
       record { is = tried_then (the_table start) (the_table now) (the_table then) ps qs all t.is b.is a; same_reference = b.same_reference ∙ t.same_reference }
 
-  pub tried_one : (start now then : declared.Table) (ps all : List Place) (p : Place) → Tried start ps now → Becomes now then (tried_for q (the_table now) p) → all ≡ ps ++ p ∷ [] → Tried start all then
+  pub tried_one : (start now then : declared.Table) (ps all : List Place) (p : Place) → Tried start ps now → Becomes now then (tried_for q (the_table now) p)
+      → all ≡ ps ++ p ∷ [] → Tried start all then
   tried_one start now then ps all p t b a =
       tried_more start now then ps (p ∷ []) all t (becomes_as now then _ _ b (all_tried_one (the_table now) p)) a
 
@@ -74,16 +78,19 @@ each_next f n = ap (λ m. each f (up_to m)) (let k : n + 1 ≡ suc n = omega ari
 pub flat_next : (f : ℕ → List Place) (n : ℕ) → flat f (up_to (n + 1)) ≡ flat f (up_to n) ++ f n
 unfolding up_to
 flat_next f n =
-    ap (λ m. flat f (up_to m)) (let k : n + 1 ≡ suc n = omega arith in k) ∙ flat_append f (up_to n) (n ∷ []) ∙ ap (λ l. flat f (up_to n) ++ l) (append-nil (f n))
+    ap (λ m. flat f (up_to m)) (let k : n + 1 ≡ suc n = omega arith in k) ∙ flat_append f (up_to n) (n ∷ [])
+    ∙ ap (λ l. flat f (up_to n) ++ l) (append-nil (f n))
 
 -- of the first i kinds
 abbrev pub of_kinds : (ℕ → List Place) → ℕ → List Kind → List Place
 of_kinds f i ks = flat f (each kind_number (take i ks))
 
-pub kinds_next : (f : ℕ → List Place) (ks : List Kind) (i : ℕ) (d : Kind) → i < length ks → of_kinds f (i + 1) ks ≡ of_kinds f i ks ++ f (kind_number (get_or ks i d))
+pub kinds_next : (f : ℕ → List Place) (ks : List Kind) (i : ℕ) (d : Kind) → i < length ks
+    → of_kinds f (i + 1) ks ≡ of_kinds f i ks ++ f (kind_number (get_or ks i d))
 kinds_next f ks i d h =
     ap (λ l. flat f (each kind_number l)) (take_more ks i d h) ∙ ap (flat f) (each_append kind_number (take i ks) (get_or ks i d ∷ []))
-    ∙ flat_append f (each kind_number (take i ks)) (kind_number (get_or ks i d) ∷ []) ∙ ap (λ l. flat f (each kind_number (take i ks)) ++ l) (append-nil (f (kind_number (get_or ks i d))))
+    ∙ flat_append f (each kind_number (take i ks)) (kind_number (get_or ks i d) ∷ [])
+    ∙ ap (λ l. flat f (each kind_number (take i ks)) ++ l) (append-nil (f (kind_number (get_or ks i d))))
 
 pub kinds_end : (f : ℕ → List Place) (ks : List Kind) (i : ℕ) → length ks ≤ i → of_kinds f i ks ≡ flat f (each kind_number ks)
 kinds_end f ks i h = ap (λ l. flat f (each kind_number l)) (take_all i ks h)

@@ -22,9 +22,13 @@ IsFirstAlike t x r = MatchOption r (alike_at t.numbers x 0 t.rows ≡ t.rows) (�
 abbrev pub tried_for : Question → Table → Place → Table
 tried_for q t p = tried (examples_of q) (asked_of q) t p
 
--- and one place after the other
+-- one place after the other
 abbrev pub all_tried_for : Question → Table → List Place → Table
 all_tried_for q t ps = all_tried (examples_of q) (asked_of q) t ps
+
+-- a table becomes what these places, tried one after the other, make of it
+abbrev pub Tries : Question → declared.Table → declared.Table → List Place → Type 0
+Tries q was now ps = Becomes was now (all_tried_for q (the_table was) ps)
 
 -- the first given text of a question
 abbrev pub first_of : Question → List ℕ

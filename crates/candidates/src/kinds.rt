@@ -6,7 +6,7 @@ ghost use Rattle.candidates.specs.Places.{stands_in, kinds_in};
 
 use rules::Kind;
 
-// Kinds in the order of their numbers: the first `count` of the list, since there is no heap.
+// Kinds in the order of their numbers: the first `count` of the list. There is no heap, and an `ArrayVec` asks for a default kind.
 #[derive(Drop)]
 pub(crate) struct Kinds {
     list: [Kind; 512],

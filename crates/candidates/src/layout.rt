@@ -12,11 +12,13 @@ use crate::question::Question;
 use crate::texts::lay_texts;
 use crate::walk::lay_rows;
 
-// The numbers before the texts, of the texts and of the guide; behind these lies the table.
+// The numbers in front: how many examples and rows there are.
 const HEAD: usize = 16;
 
+// The numbers of nine examples' texts.
 const TEXTS: usize = 1170;
 
+// Those of eight examples' guides. Behind them lies the table.
 const GUIDE: usize = 4680;
 
 // Lays down the problem of some examples, and a text that may be asked about.

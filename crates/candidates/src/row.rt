@@ -11,10 +11,13 @@ use rules::Place;
 // A row's numbers: five that say the place, its cost, where it lies in eight given texts and in the text asked about, and 0.
 pub(crate) const ROW: usize = 16;
 
+// Where the cost is among them.
 pub(crate) const COST: usize = 5;
 
+// Where it lies in the first given text; those of the others follow.
 const AT: usize = 6;
 
+// Where it lies in the text asked about.
 const ASKED: usize = 14;
 
 pub(crate) type Row = [u64; ROW];

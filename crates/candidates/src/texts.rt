@@ -7,9 +7,13 @@ ghost use Rattle.candidates.specs.Values.{the_example, the_examples};
 
 use crate::example::Example;
 
-// An example's numbers, and where its texts begin among them, behind their two lengths.
+// An example's numbers: the lengths of its two texts, and 64 for each text.
 const EXAMPLE: usize = 130;
+
+// Where the given text begins among them.
 const GIVEN: usize = 2;
+
+// And the wanted one.
 const WANTED: usize = 66;
 
 // Lays down a text from a position on.

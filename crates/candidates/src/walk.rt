@@ -5,7 +5,7 @@ ghost use Rattle.rules.specs.Places.{all_of};
 ghost use Rattle.rules.specs.Values.{the_place, kind_number};
 ghost use Rattle.candidates.specs.Places.{counted, places_between, places_among, places_in};
 ghost use Rattle.candidates.specs.RowTable.{table_for, table_size, most_rows};
-ghost use Rattle.candidates.specs.Tables.{the_table, Becomes, tried_for, all_tried_for, first_of};
+ghost use Rattle.candidates.specs.Tables.{the_table, Becomes, Tries, tried_for, first_of};
 ghost use Rattle.candidates.specs.Values.{examples_of, asked_of};
 ghost use Rattle.candidates.specs.Weights.{smaller};
 
@@ -35,7 +35,7 @@ impl Table<'_> {
 
     // Tries the places that are counted in bytes, from the beginning and then from the end.
     fn try_counted(&mut self, question: Question)
-        ensures { Becomes self.old self.new (all_tried_for question.entry (the_table self.old) counted) }
+        ensures { Tries question.entry self.old self.new counted }
     {
         for n in 0..65 {
             self.try_place(question, Place::FromFirst(n));
@@ -47,7 +47,7 @@ impl Table<'_> {
 
     // Tries the places between two kinds that are there in the first given text.
     fn try_between(&mut self, question: Question, left: Kind, right: Kind)
-        ensures { Becomes self.old self.new (all_tried_for question.entry (the_table self.old) (places_between (first_of question.entry) (kind_number left) (kind_number right))) }
+        ensures { Tries question.entry self.old self.new (places_between (first_of question.entry) (kind_number left) (kind_number right)) }
     {
         if left == Kind::Anything && right == Kind::Anything {
             return;
@@ -67,7 +67,7 @@ impl Table<'_> {
 
     // Tries the places between any two of the kinds.
     fn try_kinds(&mut self, question: Question, kinds: &[Kind])
-        ensures { Becomes self.old self.new (all_tried_for question.entry (the_table self.old) (places_among (first_of question.entry) (each kind_number kinds.now))) }
+        ensures { Tries question.entry self.old self.new (places_among (first_of question.entry) (each kind_number kinds.now)) }
     {
         for left in kinds {
             for right in kinds {
@@ -78,7 +78,7 @@ impl Table<'_> {
 
     // Tries all places that are there in the first given text.
     pub(crate) fn fill(&mut self, question: Question)
-        ensures { Becomes self.old self.new (all_tried_for question.entry (the_table self.old) (places_in (first_of question.entry))) }
+        ensures { Tries question.entry self.old self.new (places_in (first_of question.entry)) }
     {
         let kinds = kinds_in(question.first_given());
         self.try_counted(question);

@@ -6,14 +6,13 @@ use Rattle.candidates.proofs.kinds.kinds_in.Goals.{in-Some+then-stands_in, in-So
 pub loop-number-init : goal.loop-number-init
 loop-number-init c = collected_none _ _ refl
 
-pub push-requires : goal.push-requires
-push-requires c = let few = c.loop-number.invariant.few in record { room = omega arith }
-
 pub loop-number-preserved : goal.loop-number-preserved
 loop-number-preserved c =
     elim c.match-numbered.branch [
-      | in-Some+then-stands_in w ↦ collected_more _ _ _ c.loop-number.invariant _ _ w.in-Some.ensures.0 w.in-Some.ensures.1 (sym w.if-stands_in.ensures) (ap (λ k. k.count) w.kinds-is ∙ w.push.ensures.count) (ap (λ k. take k.count k.list) w.kinds-is ∙ w.push.ensures.pushed)
-      | in-Some+else-stands_in w ↦ collected_absent _ _ _ c.loop-number.invariant _ _ w.in-Some.ensures.0 w.in-Some.ensures.1 (sym w.if-stands_in.ensures) w.kinds-is
+      | in-Some+then-stands_in w ↦ collected_more _ _ _ c.loop-number.invariant _ _ w.in-Some.ensures.0 w.in-Some.ensures.1 (sym w.if-stands_in.ensures)
+          (ap (λ k. k.count) w.kinds-is ∙ w.push.ensures.count) (ap (λ k. take k.count k.list) w.kinds-is ∙ w.push.ensures.pushed)
+      | in-Some+else-stands_in w ↦ collected_absent _ _ _ c.loop-number.invariant _ _ w.in-Some.ensures.0 w.in-Some.ensures.1
+          (sym w.if-stands_in.ensures) w.kinds-is
       | in_default w ↦ collected_none_there _ _ _ c.loop-number.invariant _ w.in_default.ensures w.kinds-is
     ]
 

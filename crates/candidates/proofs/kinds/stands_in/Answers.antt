@@ -11,4 +11,5 @@ pub returns-else-eq : goal.returns-else-eq
 returns-else-eq c =
     let other : c.args.kind ≡ Anything → ⊥ = λ e. search rules in
     some_byte c.args.text.now (kind_number c.args.kind) c.any.result (λ z. other (zero_is c.args.kind z))
-    (any_from_yields_List (λ b. of_kind (kind_number c.args.kind) b) _ _ c.any.result c.any.ensures.ran (YieldsList-from_slice c.args.text.now cc) (λ x b q k. search (rules, tests)))
+    (any_from_yields_List (λ b. of_kind (kind_number c.args.kind) b) _ _ c.any.result c.any.ensures.ran (YieldsList-from_slice c.args.text.now cc)
+    (λ x b q k. search (rules, tests)))

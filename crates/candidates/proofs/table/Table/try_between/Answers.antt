@@ -1,4 +1,4 @@
-use Rattle.std.proofs.Common.{◌≡◌, rules, sym, ap, ◌∙◌, append-nil, arith}
+use Rattle.std.proofs.Common.{◌≡◌, rules, ap, ◌∙◌, arith}
 use Rattle.rules.specs.declared.kind.Kind.TheVariants.{Anything}
 use Rattle.rules.specs.Lists.{flat, up_to}
 use Rattle.rules.specs.Values.{kind_number}
@@ -18,9 +18,6 @@ pub loop-n-init : goal.loop-n-init
 unfolding up_to
 loop-n-init c = tried_none _ _
 
-pub loop-back-init : goal.loop-back-init
-loop-back-init c = tried_same _ _ _ _ _ c.loop-n.invariant (append-nil _)
-
 pub loop-back-preserved : goal.loop-back-preserved
 loop-back-preserved c =
     tried_one c.args.question _ _ _ _ _ _ c.loop-back.invariant c.try_place.ensures
@@ -29,11 +26,13 @@ loop-back-preserved c =
 pub loop-n-preserved : goal.loop-n-preserved
 loop-n-preserved c =
     tried_same _ _ _ _ _ c.loop-back.invariant
-    (flat_next (both_ways (kind_number c.args.left) (kind_number c.args.right)) c.loop-n.n ∙ ways_all (kind_number c.args.left) (kind_number c.args.right) c.loop-n.n c.loop-back.back-index _ c.loop-back-test.false)
+    (flat_next (both_ways (kind_number c.args.left) (kind_number c.args.right)) c.loop-n.n
+    ∙ ways_all (kind_number c.args.left) (kind_number c.args.right) c.loop-n.n c.loop-back.back-index _ c.loop-back-test.false)
 
 pub returns : goal.returns
 returns c =
-    let other : c.args.left ≡ Anything → c.args.right ≡ Anything → ⊥ = λ e f. elim c.else-eq.branch [ else-eq-via-then-eq+else-eq-2 w ↦ search rules | else-eq-via-else-eq w ↦ search rules ] in
+    let other : c.args.left ≡ Anything → c.args.right ≡ Anything
+    → ⊥ = λ e f. elim c.else-eq.branch [ else-eq-via-then-eq+else-eq-2 w ↦ search rules | else-eq-via-else-eq w ↦ search rules ] in
     let all : c.loop-n.n ≡ c.fits-n-end.result = omega arith in
     tried_end c.args.question _ _ _ _ c.loop-n.invariant
     (ap (λ m. flat (both_ways (kind_number c.args.left) (kind_number c.args.right)) (up_to m)) all

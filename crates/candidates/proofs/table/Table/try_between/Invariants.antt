@@ -1,6 +1,5 @@
-use Rattle.std.proofs.Common.{◌+◌, true, false, [], ◌∷◌, ◌++◌, take}
-use Rattle.rules.specs.Lists.{each, flat, up_to}
-use Rattle.rules.specs.Places.{nth_of}
+use Rattle.std.proofs.Common.{◌++◌, take}
+use Rattle.rules.specs.Lists.{flat, up_to}
 use Rattle.rules.specs.Values.{kind_number}
 use Rattle.candidates.specs.Places.{both_ways}
 use Rattle.candidates.proofs.TriedInTurn.{Tried}
@@ -11,4 +10,6 @@ invariant-loop-n l = Tried l.question l.fn.self (flat (both_ways (kind_number l.
 
 abbrev pub invariant-loop-back : goal.invariant-loop-back
 invariant-loop-back l =
-    Tried l.question l.fn.self (flat (both_ways (kind_number l.left) (kind_number l.right)) (up_to l.n) ++ take l.back-index (both_ways (kind_number l.left) (kind_number l.right) l.n)) l.self
+    Tried l.question l.fn.self
+    (flat (both_ways (kind_number l.left) (kind_number l.right)) (up_to l.n) ++ take l.back-index
+    (both_ways (kind_number l.left) (kind_number l.right) l.n)) l.self

@@ -21,4 +21,5 @@ pub loop-n-2-preserved : goal.loop-n-2-preserved
 loop-n-2-preserved c =
     let first = each (λ n. from_first n) (up_to 65) in
     tried_one c.args.question _ _ _ _ _ _ c.loop-n-2.invariant c.try_place-in-loop-n-2.ensures
-    (ap (λ l. first ++ l) (each_next (λ n. from_last n) c.loop-n-2.n) ∙ sym (append_assoc first (each (λ n. from_last n) (up_to c.loop-n-2.n)) (from_last c.loop-n-2.n ∷ [])))
+    (ap (λ l. first ++ l) (each_next (λ n. from_last n) c.loop-n-2.n)
+    ∙ sym (append_assoc first (each (λ n. from_last n) (up_to c.loop-n-2.n)) (from_last c.loop-n-2.n ∷ [])))

@@ -1,14 +1,10 @@
-use Rattle.std.proofs.Common.{append-nil}
 use Rattle.candidates.specs.Tables.{first_of}
 use Rattle.candidates.proofs.PlacesTried.{right_on, left_on}
-use Rattle.candidates.proofs.TriedInTurn.{tried_none, tried_same, tried_end, kinds_end}
+use Rattle.candidates.proofs.TriedInTurn.{tried_none}
 use Rattle.candidates.proofs.table.Table.try_kinds.Goals as goal
 
 pub loop-left-init : goal.loop-left-init
 loop-left-init c = tried_none _ _
-
-pub loop-right-init : goal.loop-right-init
-loop-right-init c = tried_same _ _ _ _ _ c.loop-left.invariant (append-nil _)
 
 pub loop-right-preserved : goal.loop-right-preserved
 loop-right-preserved c =
@@ -18,6 +14,3 @@ loop-right-preserved c =
 pub loop-left-preserved : goal.loop-left-preserved
 loop-left-preserved c =
     left_on (first_of c.args.question) c.args.kinds.now c.args.question _ c.loop-left.left-index c.loop-right.right-index _ _ c.loop-right.invariant c.loop-left-test.true c.loop-right-test.false
-
-pub returns : goal.returns
-returns c = tried_end c.args.question _ _ _ _ c.loop-left.invariant (kinds_end _ c.args.kinds.now c.loop-left.left-index c.loop-left-test.false)
