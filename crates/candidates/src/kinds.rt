@@ -47,7 +47,7 @@ pub(crate) fn kinds_in(text: &[u8]) -> Kinds
         count: 0,
     };
     for number in 0..512 {
-        if let Some(kind) = Kind::numbered(number) {
+        if let Ok(kind) = Kind::try_from(number) {
             if stands_in(text, kind) {
                 kinds.push(kind);
             }

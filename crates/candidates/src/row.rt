@@ -37,8 +37,8 @@ fn place_numbers(place: Place) -> [u64; COST]
             back,
         } => [
             2,
-            left.number() as u64,
-            right.number() as u64,
+            u16::from(left) as u64,
+            u16::from(right) as u64,
             n as u64,
             back as u64,
         ],
