@@ -76,14 +76,6 @@ pub record Going (r : Rule) (file rest : List ℕ) (t : Table) : Type 0 where
   pub bound : t.lines + length rest ≤ length file
 
 module _ (r : Rule) (file : List ℕ) where
-  pub going_from : (t : Table) → vec_items t.rows ≡ [] → t.lines ≡ 0 → vec_items t.missed ≡ [] → Going r file file t
-  going_from t no_rows no_lines none_missed = record {
-    rows_left = ap (λ l. l ++ rows r (lines file)) no_rows;
-    lines_left = omega arith;
-    missed_left = ap₂ (λ l n. l ++ missed r (n + 1) (lines file)) none_missed no_lines;
-    bound = omega arith;
-  }
-
   pub gone_through : (rest : List ℕ) (t : Table) → Going r file rest t → length rest ≤ 0 → TableOf r (lines file) t
   unfolding lines_from missed
   gone_through [] t g h = record {
