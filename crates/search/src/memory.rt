@@ -58,15 +58,16 @@ impl Frame {
         }
     }
 
-    // Lays the frame down in memory from `at` on.
-    fn put(&self, memory: &mut [u64], at: usize)
+    // Lays the frame down in memory from `at` on. It is taken by value: behind a reference, a search took a quarter more instructions.
+    fn put(self, memory: &mut [u64], at: usize)
         requires { at + FRAME ≤ length memory.old }
-        ensures laid { memory.new ≡ written memory.old at (frame_numbers self.now) }
+        ensures laid { memory.new ≡ written memory.old at (frame_numbers self) }
         // The type says it too, but a caller does not see that of an element.
-        ensures nine { length self.now.state ≡ 9 }
+        ensures nine { length self.state ≡ 9 }
     {
+        let rest = [self.left, self.index];
         memory[at..at + 9].copy_from_slice(&self.state);
-        memory[at + 9..at + FRAME].copy_from_slice(&[self.left, self.index]);
+        memory[at + 9..at + FRAME].copy_from_slice(&rest);
     }
 }
 

@@ -14,7 +14,8 @@ impl Search<'_> {
     pub fn begin(&mut self, examples: &[Example]) -> Result<(), Refusal>
         ensures same_reference { (lent self.new).ghost_name ≡ (lent self.old).ghost_name }
         ensures told { result ≡ told_by (refusal_of (the_examples examples.now)) }
-        ensures memory { let es = the_examples examples.now in the_memory self.new ≡ left_by (refusal_of es) (begun_in es (the_memory self.old)) (the_memory self.old) }
+        ensures memory { let es = the_examples examples.now in
+            the_memory self.new ≡ left_by (refusal_of es) (begun_in es (the_memory self.old)) (the_memory self.old) }
     {
         check_examples(examples)?;
         self.lay(examples);

@@ -5,5 +5,5 @@ use Rattle.search.proofs.frame.Frame.put.Goals as goal
 
 pub returns-clause-laid : goal.returns-clause-laid
 returns-clause-laid c =
-    let nine : length c.args.self.now.state ≡ 9 = search rules in
+    let nine : length c.args.self.state ≡ 9 = search rules in
     two_pieces c.args.memory.now _ _ _ _ c.args.at nine c.copy_from_slice.ensures.after c.copy_from_slice-2.ensures.after refl (omega (arith, c.requires))
