@@ -30,10 +30,3 @@ module _ (v : View) (s : List ℕ) (i : ℕ) where
   pub cut_is : (n : ℕ) → n ≡ literals_in v s → n ≤ i → i - n < v.rows * v.rows → cut_spelled v ((i - n) / v.rows) ((i - n) % v.rows) ≡ candidate_spelled v s i
   cut_is n e h k =
       ap (λ m. cut_spelled v ((i - m) / v.rows) ((i - m) % v.rows)) e ∙ sym (spelled_cut (omega arith) (let e : i - n ≡ i - literals_in v s = omega arith in omega arith))
-
--- the place of a row, by the first of its numbers
-pub end_spelled : (tag l r n b : ℕ) → tag < 2 → numbers_spelled tag l r n b ≡ as_byte tag ∷ as_byte n ∷ []
-unfolding numbers_spelled
-end_spelled zero l r n b h = refl
-end_spelled (suc zero) l r n b h = refl
-end_spelled (suc (suc tag)) l r n b h = absurd (omega arith)

@@ -165,6 +165,7 @@ impl<'a> CostedExample<'a> {
             given,
             wanted,
         } = self;
+        // By number, since x is where three slices are cut.
         for x in 0..given.len() {
             along(room, costs[x], &costs[x + 1..], &given[x..], wanted);
         }
