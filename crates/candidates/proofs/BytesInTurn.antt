@@ -4,7 +4,7 @@ use Rattle.std.proofs.lemmas.List.{set_split, take_all, length-take-le}
 use Rattle.rules.specs.Answers.{written}
 use Rattle.rules.specs.Lists.{each}
 use Rattle.rules.proofs.EachElement.{each_length, each_past}
-use Rattle.rules.proofs.WrittenBytes.{written_none, written_next, length_written}
+use Rattle.rules.proofs.WrittenBytes.{written_next, length_written}
 use Rattle.candidates.specs.Spelled.{as_byte, literal_spelled}
 
 -- one byte set is one written

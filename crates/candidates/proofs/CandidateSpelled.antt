@@ -1,9 +1,9 @@
 -- How the candidate of a number is spelled, by what it is.
-use Rattle.std.proofs.Common.{◌≡◌, ℕ, zero, suc, ◌+◌, ◌-◌, ◌*◌, ◌/◌, ◌%◌, ◌<◌, ◌≤◌, List, [], ◌∷◌, length, get_or, take, drop, sym, refl, ap, ◌∙◌, ap₂, arith}
+use Rattle.std.proofs.Common.{◌≡◌, ℕ, ◌+◌, ◌-◌, ◌*◌, ◌/◌, ◌%◌, ◌<◌, ◌≤◌, List, [], length, get_or, take, drop, sym, refl, ap, ◌∙◌, ap₂, arith}
 use Rattle.std.proofs.lemmas.Bool.{lt-ltb, le-ltb}
 use Rattle.rules.specs.Answers.{written}
 use Rattle.candidates.specs.Problem.{View, wanted_in, literals_in}
-use Rattle.candidates.specs.Spelled.{as_byte, numbers_spelled, literal_spelled, cut_spelled, candidate_spelled}
+use Rattle.candidates.specs.Spelled.{literal_spelled, cut_spelled, candidate_spelled}
 
 -- what is written, and where it ends, said of the same bytes by another name
 pub written_as : (out after bs cs : List ℕ) (at end : ℕ) → end ≡ at + length bs → after ≡ written out at bs → bs ≡ cs → (end ≡ at + length cs) × (after ≡ written out at cs)

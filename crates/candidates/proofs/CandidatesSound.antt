@@ -1,23 +1,16 @@
 -- What a search needs of the candidates, said of a view that holds the examples: they are few, valid, in order, keep a state fit, and stand for every valid part.
-use Rattle.std.proofs.Common.{◌≡◌, ℕ, ◌+◌, ◌*◌, ◌<◌, ◌≤◌, true, false, leb, ◌⊎◌, List, ◌∷◌, length, sym, ◌∙◌, subst, arith}
+use Rattle.std.proofs.Common.{◌≡◌, ℕ, true, leb, List, ◌∷◌, length}
 use Rattle.std.proofs.lemmas.Bool.{and_parts, leb-true}
-use Rattle.rules.specs.Lists.{every, earlier}
+use Rattle.rules.specs.Lists.{every}
 use Rattle.rules.specs.Rules.{Part, a_part}
-use Rattle.rules.specs.Order.{part_spelled}
 use Rattle.rules.specs.Examples.{Example}
-use Rattle.candidates.specs.Weights.{part_weight}
-use Rattle.candidates.specs.Moves.{goes, moved, fit, start}
+use Rattle.candidates.specs.Moves.{goes, fit, start}
 use Rattle.candidates.specs.Rows.{small_example, small_examples}
-use Rattle.candidates.specs.Candidates.{candidate, StandsFor}
-use Rattle.candidates.specs.Problem.{View, count_in, all_go, all_moved, candidate_piece, candidate_weight}
+use Rattle.candidates.specs.Candidates.{StandsFor}
+use Rattle.candidates.specs.Problem.{View}
 use Rattle.candidates.specs.Laid.{Laid, rows_of}
-use Rattle.candidates.proofs.StaysFit.{start_fit, stays_fit}
-use Rattle.candidates.proofs.CandidatesFew.{candidates_few}
-use Rattle.candidates.proofs.CandidatesValid.{candidates_valid}
-use Rattle.candidates.proofs.CandidatesOrdered.{candidates_ordered}
+use Rattle.candidates.proofs.StaysFit.{start_fit}
 use Rattle.candidates.proofs.Exchange.{complete}
-use Rattle.candidates.proofs.CandidatePieces.{count_agrees, weight_agrees}
-use Rattle.candidates.proofs.ViewAgrees.{goes_agrees, moved_agrees}
 
 pub fit_start : (es : List Example) → small_examples es ≡ true → fit es start ≡ true
 fit_start es small = start_fit es (leb-true (length es) 8 (and_parts (leb (length es) 8) (every small_example es) small).0)

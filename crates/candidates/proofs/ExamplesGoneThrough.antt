@@ -1,12 +1,11 @@
 -- A move, and the test of it, over the examples that a loop has gone through, and over those that are left.
-use Rattle.std.proofs.Common.{◌≡◌, ℕ, zero, suc, ◌+◌, ◌<◌, ◌≤◌, true, ◌&&◌, eqb, List, [], ◌∷◌, length, get_or, take, drop, set, refl, ap, ◌∙◌, add-one, arith}
-use Rattle.std.proofs.lemmas.List.{take_all, drop_all}
-use Rattle.std.proofs.lemmas.Bool.{and_parts, and_from}
+use Rattle.std.proofs.Common.{◌≡◌, ℕ, zero, suc, ◌+◌, ◌<◌, ◌≤◌, true, ◌&&◌, List, [], ◌∷◌, length, get_or, take, set, refl, ap, add-one, arith}
+use Rattle.std.proofs.lemmas.List.{take_all}
 use Rattle.rules.specs.Rules.{Part, part_of}
 use Rattle.rules.specs.Promises.{made_length}
 use Rattle.rules.specs.Examples.{Example}
-use Rattle.candidates.specs.Moves.{goes_on, goes, moved, at_end}
-use Rattle.candidates.specs.Rows.{given_of, wanted_of, example_at}
+use Rattle.candidates.specs.Moves.{goes_on, goes, moved}
+use Rattle.candidates.specs.Rows.{given_of, example_at}
 
 -- THE TEST
 goes_past_suc : (es : List Example) (p : Part) (s : List ℕ) (e : ℕ) → e < length es → e < length s → goes (take (suc e) es) p s ≡ (goes (take e es) p s && goes_on (example_at es e) p (get_or s e 0))

@@ -1,15 +1,10 @@
 -- Whether a part goes on, and how far, by the bytes of a literal and by where the places of a cut lie.
-use Rattle.std.proofs.Common.{◌≡◌, ℕ, ◌-◌, ◌≤◌, Bool, true, false, ◌&&◌, leb, List, [], ◌∷◌, length, take, drop, sym, refl, ◌∙◌, subst, ap₂, arith, length-drop}
-use Rattle.std.proofs.lemmas.List.{length-take-le}
-use Rattle.std.proofs.lemmas.Bool.{and_parts, leb-true, leb-false}
-use Rattle.rules.specs.Lists.{pick, every, same}
+use Rattle.std.proofs.Common.{◌≡◌, ℕ, ◌-◌, ◌≤◌, true, leb, List, [], ◌∷◌, length, take, drop, subst, ap₂}
+use Rattle.std.proofs.lemmas.Bool.{and_parts, leb-true}
+use Rattle.rules.specs.Lists.{pick, every}
 use Rattle.rules.specs.Places.{Place, spot}
-use Rattle.rules.specs.Rules.{bytes, cut, nothing, made, from_to, part_of, is_made}
-use Rattle.rules.specs.Promises.{made_length}
-use Rattle.rules.specs.Examples.{Example}
+use Rattle.rules.specs.Rules.{cut, nothing, made, from_to, part_of}
 use Rattle.rules.proofs.PlacesWithin.{places_within}
-use Rattle.rules.proofs.Tests.{pick_both}
-use Rattle.candidates.specs.Moves.{goes_on}
 
 -- a place that lies somewhere lies within the text
 pub lies_within : (t : List ℕ) (p : Place) (a : ℕ) → spot t p ≡ a ∷ [] → a ≤ length t

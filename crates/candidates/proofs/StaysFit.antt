@@ -5,7 +5,7 @@ use Rattle.rules.specs.Rules.{Part, part_of}
 use Rattle.rules.specs.Promises.{made_length}
 use Rattle.rules.specs.Examples.{Example}
 use Rattle.candidates.specs.Moves.{goes_on, goes, moved, within, fit, start}
-use Rattle.candidates.specs.Rows.{given_of, wanted_of}
+use Rattle.candidates.specs.Rows.{wanted_of}
 use Rattle.candidates.proofs.GoesOn.{goes_on_within}
 
 pub moved_length : (es : List Example) (p : Part) (s : List ℕ) → length (moved es p s) ≡ length s
