@@ -1,4 +1,4 @@
--- What a search needs of the candidates, said of a view that holds the examples: they are few, valid, in order, keep a state fit, and stand for every valid part.
+-- What a search needs of the candidates, said of a view that holds the examples: the start is fit, and there is a candidate that stands for each valid part.
 use Rattle.std.proofs.Common.{◌≡◌, ℕ, true, leb, List, ◌∷◌, length}
 use Rattle.std.proofs.lemmas.Bool.{and_parts, leb-true}
 use Rattle.rules.specs.Lists.{every}

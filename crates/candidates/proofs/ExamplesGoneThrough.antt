@@ -1,4 +1,4 @@
--- A move, and the test of it, over the examples that a loop has gone through, and over those that are left.
+-- A move, and the test of it, over the examples that have been gone through.
 use Rattle.std.proofs.Common.{◌≡◌, ℕ, zero, suc, ◌+◌, ◌<◌, ◌≤◌, true, ◌&&◌, List, [], ◌∷◌, length, get_or, take, set, refl, ap, add-one, arith}
 use Rattle.std.proofs.lemmas.List.{take_all}
 use Rattle.rules.specs.Rules.{Part, part_of}

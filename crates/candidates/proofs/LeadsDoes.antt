@@ -1,4 +1,4 @@
--- Parts lead from a state to the end exactly if they make of each given text what is left of the wanted one; so they do the examples exactly if they lead from the start.
+-- Parts that lead from a state to the end make of each given text what is left of the wanted one; they do the examples exactly if they lead from the start.
 use Rattle.std.proofs.Common.{◌≡◌, ℕ, zero, suc, ◌+◌, ◌<◌, ◌≤◌, Bool, true, false, ◌&&◌, eqb, leb, List, [], ◌∷◌, length, get_or, drop, replicate, sym, refl, ap, ◌∙◌, subst, ap₂, arith, length-drop}
 use Rattle.std.proofs.lemmas.Bool.{and_parts, and_from, leb-true, le-leb, eqb-true, eq-eqb}
 use Rattle.std.proofs.lemmas.Bool.Decides.{nat_tests}

@@ -1,4 +1,4 @@
--- Whether a part goes on, and how far, by the bytes of a literal and by where the places of a cut lie.
+-- A place that lies somewhere lies within the text, and what a cut makes by where its places lie.
 use Rattle.std.proofs.Common.{◌≡◌, ℕ, ◌-◌, ◌≤◌, true, leb, List, [], ◌∷◌, length, take, drop, subst, ap₂}
 use Rattle.std.proofs.lemmas.Bool.{and_parts, leb-true}
 use Rattle.rules.specs.Lists.{pick, every}
