@@ -4,7 +4,7 @@ use Rattle.std.proofs.lemmas.List.{set_split, take_all, length-take-le}
 use Rattle.rules.specs.Answers.{written}
 use Rattle.rules.specs.Lists.{each}
 use Rattle.rules.proofs.EachElement.{each_length, each_past}
-use Rattle.rules.proofs.WrittenBytes.{written_none, written_next, length_written}
+use Rattle.rules.proofs.WrittenBytes.{written_next, length_written}
 use Rattle.candidates.specs.Spelled.{as_byte, literal_spelled}
 
 -- one byte set is one written
@@ -20,9 +20,6 @@ module _ (ns : List ℕ) where
   long_to i h = each_length as_byte (take i ns) ∙ length-take-le i ns h
 
   module _ (before : List ℕ) (at : ℕ) where
-    pub bytes_none : before ≡ written before at (bytes_to 0)
-    bytes_none = sym (written_none before at)
-
     pub bytes_more : (after : List ℕ) (i n k b : ℕ) → at + length ns ≤ length before → after ≡ written before at (bytes_to i) → i < length ns → n ≡ get_or ns i n → k ≡ at + i → b ≡ as_byte n →
         set after k b ≡ written before at (bytes_to (i + 1))
     bytes_more after i n k b room e h is p q =

@@ -1,9 +1,9 @@
 -- How the candidate of a number is spelled, by what it is.
-use Rattle.std.proofs.Common.{◌≡◌, ℕ, zero, suc, ◌+◌, ◌-◌, ◌*◌, ◌/◌, ◌%◌, ◌<◌, ◌≤◌, List, [], ◌∷◌, length, get_or, take, drop, sym, refl, ap, ◌∙◌, ap₂, arith}
+use Rattle.std.proofs.Common.{◌≡◌, ℕ, ◌+◌, ◌-◌, ◌*◌, ◌/◌, ◌%◌, ◌<◌, ◌≤◌, List, [], length, get_or, take, drop, sym, refl, ap, ◌∙◌, ap₂, arith}
 use Rattle.std.proofs.lemmas.Bool.{lt-ltb, le-ltb}
 use Rattle.rules.specs.Answers.{written}
 use Rattle.candidates.specs.Problem.{View, wanted_in, literals_in}
-use Rattle.candidates.specs.Spelled.{as_byte, numbers_spelled, literal_spelled, cut_spelled, candidate_spelled}
+use Rattle.candidates.specs.Spelled.{literal_spelled, cut_spelled, candidate_spelled}
 
 -- what is written, and where it ends, said of the same bytes by another name
 pub written_as : (out after bs cs : List ℕ) (at end : ℕ) → end ≡ at + length bs → after ≡ written out at bs → bs ≡ cs → (end ≡ at + length cs) × (after ≡ written out at cs)
@@ -30,10 +30,3 @@ module _ (v : View) (s : List ℕ) (i : ℕ) where
   pub cut_is : (n : ℕ) → n ≡ literals_in v s → n ≤ i → i - n < v.rows * v.rows → cut_spelled v ((i - n) / v.rows) ((i - n) % v.rows) ≡ candidate_spelled v s i
   cut_is n e h k =
       ap (λ m. cut_spelled v ((i - m) / v.rows) ((i - m) % v.rows)) e ∙ sym (spelled_cut (omega arith) (let e : i - n ≡ i - literals_in v s = omega arith in omega arith))
-
--- the place of a row, by the first of its numbers
-pub end_spelled : (tag l r n b : ℕ) → tag < 2 → numbers_spelled tag l r n b ≡ as_byte tag ∷ as_byte n ∷ []
-unfolding numbers_spelled
-end_spelled zero l r n b h = refl
-end_spelled (suc zero) l r n b h = refl
-end_spelled (suc (suc tag)) l r n b h = absurd (omega arith)

@@ -1,5 +1,5 @@
 -- The columns laid down in memory, one behind the other, from the last to the first.
-use Rattle.std.proofs.Common.{◌≡◌, ℕ, zero, suc, ◌+◌, ◌-◌, ◌*◌, ◌<◌, ◌≤◌, ◌⊎◌, List, [], ◌∷◌, ◌++◌, length, get_or, take, drop, sym, refl, ap, ◌∙◌, subst, inl, inr, append_assoc, arith, length-append, length-drop, length-take, length-take-le, drop-cons, take-take, drop-drop}
+use Rattle.std.proofs.Common.{◌≡◌, ℕ, zero, suc, ◌+◌, ◌-◌, ◌*◌, ◌<◌, ◌≤◌, ◌⊎◌, List, [], ◌∷◌, ◌++◌, length, get_or, take, drop, sym, refl, ap, ◌∙◌, subst, inl, inr, append_assoc, arith, length-append, length-drop, length-take-le, drop-cons, take-take}
 use lib.Seq.{take-append-le}
 use Rattle.std.proofs.lemmas.List.{drop_all, take_at, drop_at, get_or_append_left, get_or_past}
 use Rattle.std.proofs.lemmas.Bool.{cases_lt}
@@ -60,9 +60,6 @@ none_above_more : (n x : ℕ) (xs : List ℕ) → x ≤ n → NoneAbove n xs →
 none_above_more n x xs h k zero = h
 none_above_more n x xs h k (suc i) = k i
 
-none_above_none : (n : ℕ) → NoneAbove n []
-none_above_none n i = omega arith
-
 none_above_append : (n : ℕ) (xs ys : List ℕ) → NoneAbove n xs → NoneAbove n ys → NoneAbove n (xs ++ ys)
 none_above_append n [] ys h k = k
 none_above_append n (x ∷ xs) ys h k = none_above_more n x (xs ++ ys) (h 0) (none_above_append n xs ys (λ i. h (suc i)) k)
@@ -91,10 +88,6 @@ module _ (xs c : List ℕ) (a : ℕ) (room : a + 9 ≤ length xs) (nine : length
   drop_with_column n e =
       let size : length (take a xs ++ c) ≡ n = let l = length-append (take a xs) c in let m = length-take-le a xs (omega arith) in omega arith in
       ap (drop n) (sym (append_assoc (take a xs) c (drop (a + 9) xs))) ∙ drop_at (take a xs ++ c) (drop (a + 9) xs) n size ∙ ap (λ m. drop m xs) (sym e)
-
--- as a write to out[a..a + 9] leaves it
-pub column_put : (xs ys c : List ℕ) (a : ℕ) → ys ≡ c → take a xs ++ (ys ++ drop (a + 9 - a) (drop a xs)) ≡ with_column xs a c
-column_put xs ys c a e = ap (λ l. take a xs ++ (l ++ drop (a + 9 - a) (drop a xs))) e ∙ ap (λ l. take a xs ++ (c ++ l)) (drop-drop (a + 9 - a) a xs ∙ ap (λ n. drop n xs) (omega arith))
 
 abbrev pub zeros : List ℕ
 zeros = 0 ∷ 0 ∷ 0 ∷ 0 ∷ 0 ∷ 0 ∷ 0 ∷ 0 ∷ 0 ∷ []

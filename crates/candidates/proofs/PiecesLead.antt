@@ -56,8 +56,3 @@ module _ (v : View) (piece : ℕ → Made) (s : List ℕ) where
   pub lead_stops : (m : ℕ) → m < v.examples → next_by (piece m) (wanted_in v m) (get_or s m 0) ≡ None → None ≡ moved_by v piece s
   lead_stops m h n =
       sym (ap (λ x. pick x (Some (all_moved piece v.examples s)) None) (all_go_stops m v.examples h (next_none (piece m) (wanted_in v m) (get_or s m 0) n)))
-
-  pub lead_all : (m : ℕ) (next : List ℕ) → m ≡ v.examples → next ≡ all_moved piece m s → all_go v piece m s ≡ true → Some next ≡ moved_by v piece s
-  lead_all m next h e g =
-      let k = subst (λ i. all_go v piece i s ≡ true) h g in
-      ap (λ x. Some x) (e ∙ ap (λ i. all_moved piece i s) h) ∙ sym (ap (λ x. pick x (Some (all_moved piece v.examples s)) None) k)

@@ -1,7 +1,7 @@
 -- The steps laid down by index: what a loop has lowered so far, and what is still to be lowered, give the whole.
-use Rattle.std.proofs.Common.{◌≡◌, ℕ, zero, suc, Bool, true, false, cond, eqb, ◌+◌, ◌<◌, ◌≤◌, min, ◌⊎◌, List, [], ◌∷◌, ◌++◌, length, get_or, take, drop, set, sym, refl, ap, ◌∙◌, subst, inl, inr, append_assoc, add-one, arith, take-append-drop, length-take, ext_get_or}
+use Rattle.std.proofs.Common.{◌≡◌, ℕ, zero, suc, Bool, true, false, cond, eqb, ◌+◌, ◌<◌, ◌≤◌, min, ◌⊎◌, List, [], ◌∷◌, ◌++◌, length, get_or, take, drop, set, sym, refl, ap, ◌∙◌, subst, inl, inr, append_assoc, arith, take-append-drop, length-take, ext_get_or}
 use Rattle.std.specs.List.{zip, prefix_len}
-use Rattle.std.proofs.lemmas.List.{drop_more, drop_all, take_more_set, drop-set-lt, get_or-take, get_or-drop, get_or_past}
+use Rattle.std.proofs.lemmas.List.{drop_more, drop_all, take_more_set, drop-set-lt, get_or_past}
 use Rattle.std.proofs.lemmas.Bool.{cases_lt, eq-eqb}
 use Rattle.std.proofs.lemmas.Bool.Decides.{nat_tests}
 use Rattle.candidates.specs.Weights.{smaller}
@@ -37,10 +37,14 @@ along_no_wanted a cs gs (n ∷ ns) = refl
 abbrev pub alike : List ℕ → List ℕ → ℕ
 alike gs ws = prefix_len (λ (p : ℕ × ℕ). eqb p.0 p.1) (zip gs ws)
 
-pub alike_within : (gs ws : List ℕ) → (alike gs ws ≤ length gs) × (alike gs ws ≤ length ws)
+alike_within : (gs ws : List ℕ) → (alike gs ws ≤ length gs) × (alike gs ws ≤ length ws)
 alike_within [] ws = (omega arith, omega arith)
 alike_within (g ∷ gs) [] = (omega arith, omega arith)
 alike_within (g ∷ gs) (w ∷ ws) = let ih = alike_within gs ws in (grind arith, grind arith)
+
+-- so many of the costs are there, and as much room
+pub alike_fits : (gs ws cs : List ℕ) (n : ℕ) → n ≡ alike gs ws → length gs ≤ length cs → (length (take n cs) ≡ n) × (n ≤ length gs) × (n ≤ length ws)
+alike_fits gs ws cs n is few = let within = alike_within gs ws in (omega (arith, length-take n cs), omega arith, omega arith)
 
 pub alike_below : (gs ws : List ℕ) (d : ℕ) → d < alike gs ws → get_or gs d 0 ≡ get_or ws d 0
 alike_below [] ws d h = absurd (omega arith)
@@ -114,14 +118,6 @@ pub literals_laid : (ws S : List ℕ) → length S ≡ length ws → ((i : ℕ) 
 literals_laid ws S e h =
     ext_get_or 0 S (literal_steps 0 ws) (e ∙ sym (length_literal_steps 0 ws))
     (λ i l. let a = h i l in let b = literal_at 0 ws i (omega arith) in omega arith)
-
--- no number of a part is above n
-pub none_above_part : (n k j : ℕ) (xs : List ℕ) → NoneAbove n xs → NoneAbove n (take k (drop j xs))
-none_above_part n k j xs h i = by_place (cases_lt i k)
-  where
-    by_place : (i < k) ⊎ (k ≤ i) → get_or (take k (drop j xs)) i 0 ≤ n
-    by_place (inl l) = let a = get_or-take k (drop j xs) i 0 l in let b = get_or-drop j xs i 0 in let top = h (j + i) in omega arith
-    by_place (inr l) = let s = length-take k (drop j xs) in let a = get_or_past (take k (drop j xs)) i 0 (omega arith) in omega arith
 
 pub steps_small : (cs gs ws : List ℕ) → length ws ≤ 64 → NoneAbove 4177 (steps cs gs ws)
 steps_small cs gs ws h i = by_place (cases_lt i (length ws))

@@ -44,9 +44,9 @@ impl<'a> Problem<'a> {
     // The cut of a number below theirs.
     fn cut(self, number: usize) -> Candidate<'a>
         requires { number < (the_view self).rows * (the_view self).rows }
-        ensures value { (e : ℕ) → pieces (the_view self.entry) result e ≡ cut_piece (the_view self.entry) (number / (the_view self.entry).rows) (number % (the_view self.entry).rows) e }
-        ensures weight { weighs (the_view self.entry) result ≡ cut_weighs (the_view self.entry) (number / (the_view self.entry).rows) (number % (the_view self.entry).rows) }
-        ensures spelled { spelled_as (the_view self.entry) result ≡ cut_spelled (the_view self.entry) (number / (the_view self.entry).rows) (number % (the_view self.entry).rows) }
+        ensures value { let v = the_view self.entry in (e : ℕ) → pieces v result e ≡ cut_piece v (number / v.rows) (number % v.rows) e }
+        ensures weight { let v = the_view self.entry in weighs v result ≡ cut_weighs v (number / v.rows) (number % v.rows) }
+        ensures spelled { let v = the_view self.entry in spelled_as v result ≡ cut_spelled v (number / v.rows) (number % v.rows) }
         ensures right { Within result }
     {
         Candidate::Cut {

@@ -2,7 +2,8 @@
 ghost use Rattle.std.specs.List.{zip, prefix_len};
 ghost use Rattle.std.specs.Prelude.{◌≡◌, ◌==◌, ℕ, ◌+◌, ◌*◌, ◌<◌, ◌≤◌, true, [], length, drop, replicate, slice_index_or};
 ghost use Rattle.rules.specs.Lists.{every};
-ghost use Rattle.candidates.specs.Guide.{lowered, least_costs, along, steps, least_in, column_in, needed_with, with_column, columns, laid_columns, all_costs, guides_laid, NoneAbove};
+ghost use Rattle.candidates.specs.Guide.{lowered, least_costs, all_costs, along, steps, least_in, needed_with, column_in, NoneAbove};
+ghost use Rattle.candidates.specs.Guide.{with_column, columns, laid_columns, guides_laid};
 ghost use Rattle.candidates.specs.Rows.{short_example};
 ghost use Rattle.candidates.specs.RowTable.{table_size, most_rows};
 ghost use Rattle.candidates.specs.Values.{the_examples};
@@ -165,6 +166,7 @@ impl<'a> CostedExample<'a> {
             given,
             wanted,
         } = self;
+        // By number, since x is where three slices are cut.
         for x in 0..given.len() {
             along(room, costs[x], &costs[x + 1..], &given[x..], wanted);
         }

@@ -1,5 +1,5 @@
 -- The piece stands next where what is left begins with it.
-use Rattle.std.proofs.Common.{◌∙◌, arith}
+use Rattle.std.proofs.Common.{◌∙◌}
 use Rattle.std.proofs.lemmas.List.{take_rest}
 use Rattle.candidates.proofs.PieceStands.{no_room, begins}
 use Rattle.candidates.proofs.look.next_position.Goals as goal

@@ -2,11 +2,8 @@ use Rattle.std.proofs.Common.{◌+◌, ◌≤◌, length, arith}
 use Rattle.std.proofs.lemmas.List.{get_or_default}
 use Rattle.rules.proofs.EachElement.{each_length}
 use Rattle.candidates.specs.Spelled.{as_byte}
-use Rattle.candidates.proofs.BytesInTurn.{bytes_none, bytes_more, literal_written}
+use Rattle.candidates.proofs.BytesInTurn.{bytes_more, literal_written}
 use Rattle.candidates.proofs.spelled.put_literal.Goals as goal
-
-pub loop-i-init : goal.loop-i-init
-loop-i-init c = bytes_none c.args.literal.now c.put.new.out (c.args.at + 2)
 
 pub loop-i-preserved : goal.loop-i-preserved
 loop-i-preserved c =

@@ -1,34 +1,14 @@
 -- The loops' steps are those of the lemmas.
-use Rattle.std.proofs.Common.{◌≡◌, ◌+◌, ◌-◌, ◌<◌, ◌≢◌, length, get_or, take, drop, sym, ap, ◌∙◌, subst, arith, length-drop, length-take, take_all, get_or-set_other, get_or-set_same, rules, below_more}
+use Rattle.std.proofs.Common.{◌≡◌, ◌+◌, ◌-◌, length, get_or, take, drop, sym, ap, ◌∙◌, subst, arith, length-drop, take_all, rules}
 use Rattle.std.proofs.lemmas.List.{take_rest}
 use Rattle.candidates.specs.Guide.{along, NoneAbove}
-use Rattle.candidates.proofs.StepsLaid.{literals_laid, none_above_part, cuts_start, cuts_go_on, cuts_end, steps_small}
+use Rattle.candidates.proofs.StepsLaid.{literals_laid, cuts_start, cuts_go_on, cuts_end, steps_small}
 use Rattle.candidates.proofs.guide.CostedExample.lay_steps.Goals as goal
-
-pub loop-d-preserved : goal.loop-d-preserved
-loop-d-preserved c =
-    below_more _ _
-    (λ k h. let ne : k ≢ c.loop-d.d = omega arith in rw get_or-set_other (c.loop-d.invariant k h))
-    (let lt : c.loop-d.d < length c.loop-d.room = omega arith in rw get_or-set_same c.literal_weight.ensures)
 
 pub loop-x-init : goal.loop-x-init
 loop-x-init c =
     cuts_start c.args.self.costs.now c.args.self.given.now c.args.self.wanted.now c.loop-d.room
     (literals_laid c.args.self.wanted.now c.loop-d.room (omega arith) (λ i h. c.loop-d.invariant i (omega arith)))
-
-pub along-requires : goal.along-requires
-along-requires c =
-    let size : length c.args.self.costs.now ≡ 65 = search rules in
-    let g = length-take (length c.args.self.given.now - c.loop-x.x) (drop c.loop-x.x c.args.self.given.now) in
-    let h = length-drop c.loop-x.x c.args.self.given.now in
-    let k = length-take (65 - (c.loop-x.x + 1)) (drop (c.loop-x.x + 1) c.args.self.costs.now) in
-    let l = length-drop (c.loop-x.x + 1) c.args.self.costs.now in
-    record {
-      room_for_wanted = omega arith;
-      a_cost_for_each_given = omega arith;
-      from_small = c.args.self.costs_small c.loop-x.x;
-      costs_small = none_above_part 255 (65 - (c.loop-x.x + 1)) (c.loop-x.x + 1) c.args.self.costs.now c.args.self.costs_small;
-    }
 
 pub loop-x-preserved : goal.loop-x-preserved
 loop-x-preserved c =

@@ -1,6 +1,5 @@
 use Rattle.std.proofs.Common.{rules}
 use Rattle.candidates.specs.Spelled.{numbers_spelled}
-use Rattle.candidates.proofs.CandidateSpelled.{end_spelled}
 use Rattle.candidates.proofs.problem.Problem.put_place.Goals as goal
 
 pub returns-in-0 : goal.returns-in-0
