@@ -11,10 +11,7 @@ use Rattle.std.proofs.lemmas.Bool.Decides.{same_from_decides, Decides-eqb}
 use Rattle.rules.specs.Lists.{pick, same}
 use Rattle.candidates.specs.RowTable.{row_at, row_number, alike, alike_at}
 use Rattle.candidates.specs.Tables.{IsFirstAlike}
-
-same_decides : (xs ys : List ℕ) → Decides (same xs ys) (xs ≡ ys)
-unfolding same
-same_decides xs ys = compares_Decides same (record { empty = refl; shorter = λ y ys. refl; longer = λ x xs. refl; heads = λ x y xs ys. refl }) xs ys
+use Rattle.candidates.proofs.SameNumbers.{same_decides}
 
 -- the last ten numbers of two rows, compared
 pub told_alike : (x y : List ℕ) (r : Bool) → length x ≡ 16 → length y ≡ 16 → r ≡ pointwise eqb (take 10 (drop 6 x)) (take 10 (drop 6 y)) → r ≡ alike x y

@@ -4,11 +4,9 @@ ghost use Rattle.std.specs.Simd.{first_chunks};
 ghost use Rattle.candidates.specs.RowTable.{with_row, in_place_of, added, table_size, most_rows};
 ghost use Rattle.candidates.specs.Tables.{the_table, Becomes, IsFirstAlike};
 
-use crate::row::{COST, ROW, Row, lie_alike};
+use crate::memory::{COST_AT, MOST_ROWS, ROW};
+use crate::row::{Row, lie_alike};
 use crate::table::Table;
-
-// As many rows as there can be.
-const MOST_ROWS: usize = 6500;
 
 impl<'a> Table<'a> {
     // An empty table.
@@ -60,7 +58,7 @@ impl<'a> Table<'a> {
         ensures { Becomes self.old self.new (added (the_table self.old) row.now) }
     {
         if let Some(i) = self.first_alike(row) {
-            if row[COST] < self.as_rows()[i][COST] {
+            if row[COST_AT] < self.as_rows()[i][COST_AT] {
                 self.put_in_place_of(i, row);
             }
         } else if self.rows < MOST_ROWS {

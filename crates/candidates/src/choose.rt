@@ -2,6 +2,7 @@
 ghost use Rattle.std.specs.Prelude.{◌≡◌, ℕ, ◌*◌, ◌/◌, ◌%◌, ◌<◌, ◌≤◌};
 ghost use Rattle.candidates.specs.Problem.{literals_in, count_in, cut_piece, cut_weighs, candidate_piece, candidate_weight, row_cost};
 ghost use Rattle.candidates.specs.Looked.{pieces, weighs, Within};
+ghost use Rattle.candidates.specs.RowTable.{most_rows};
 ghost use Rattle.candidates.specs.Spelled.{cut_spelled, spelled_as, candidate_spelled};
 ghost use Rattle.candidates.specs.Viewed.{the_view};
 
@@ -74,7 +75,7 @@ impl<'a> Problem<'a> {
 
     // What a place of this row costs.
     fn row_cost(self, row: usize) -> u64
-        requires { row < 6500 }
+        requires { row < most_rows }
         ensures value { result ≡ row_cost (the_view self.entry) row }
         ensures bound { result < 256 }
     {

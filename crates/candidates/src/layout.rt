@@ -8,18 +8,10 @@ ghost use Rattle.candidates.specs.Values.{the_examples, the_asked};
 
 use crate::example::Example;
 use crate::guide::{all_costs, lay_guides};
+use crate::memory::{GUIDES_AT, ROWS_AT, TEXTS_AT};
 use crate::question::Question;
 use crate::texts::lay_texts;
 use crate::walk::lay_rows;
-
-// The numbers in front: how many examples and rows there are.
-const HEAD: usize = 16;
-
-// The numbers of nine examples' texts.
-const TEXTS: usize = 1170;
-
-// Those of eight examples' guides. Behind them lies the table.
-const GUIDE: usize = 4680;
 
 // Lays down the problem of some examples, and a text that may be asked about.
 pub fn lay(numbers: &mut [u64], examples: &[Example], asked: Option<&[u8]>)
@@ -28,9 +20,9 @@ pub fn lay(numbers: &mut [u64], examples: &[Example], asked: Option<&[u8]>)
     requires short { every short_example (the_examples examples.now) ≡ true }
     ensures { numbers.new ≡ laid_problem (the_examples examples.now) (the_asked asked.entry) numbers.old }
 {
-    let (head, rest) = numbers.split_at_mut(HEAD);
-    let (texts, rest) = rest.split_at_mut(TEXTS);
-    let (guide, table) = rest.split_at_mut(GUIDE);
+    let (head, rest) = numbers.split_at_mut(TEXTS_AT);
+    let (texts, rest) = rest.split_at_mut(GUIDES_AT - TEXTS_AT);
+    let (guide, table) = rest.split_at_mut(ROWS_AT - GUIDES_AT);
     lay_texts(texts, examples);
     let rows = lay_rows(table, Question { examples, asked });
     lay_guides(guide, &all_costs(table, rows), examples);

@@ -25,6 +25,8 @@ pub(crate) const COST_AT: usize = 5;
 
 pub(crate) const POSITIONS_AT: usize = 6;
 
+pub(crate) const ASKED_AT: usize = POSITIONS_AT + MOST_EXAMPLES;
+
 pub(crate) const ROW: usize = 16;
 
 // A problem: how many examples and rows there are, with room; the examples and the asked text, the guides and the rows.

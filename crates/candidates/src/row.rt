@@ -5,26 +5,15 @@ ghost use Rattle.candidates.specs.RowTable.{place_numbers, row_of, alike};
 ghost use Rattle.candidates.specs.Rows.{IfThere};
 ghost use Rattle.candidates.specs.Values.{examples_of, asked_of};
 
+use crate::memory::{ASKED_AT, COST_AT, POSITIONS_AT, ROW};
 use crate::question::Question;
 use rules::Place;
-
-// A row's numbers: five that say the place, its cost, where it lies in eight given texts and in the text asked about, and 0.
-pub(crate) const ROW: usize = 16;
-
-// Where the cost is among them.
-pub(crate) const COST: usize = 5;
-
-// Where it lies in the first given text; those of the others follow.
-const AT: usize = 6;
-
-// Where it lies in the text asked about.
-const ASKED: usize = 14;
 
 pub(crate) type Row = [u64; ROW];
 
 // The five numbers that say a place.
 #[tactic(auto, unfolding(crate::specs::RowTable::place_numbers))]
-fn place_numbers(place: Place) -> [u64; COST]
+fn place_numbers(place: Place) -> [u64; COST_AT]
     ensures { result ≡ place_numbers (the_place place) }
 {
     match place {
@@ -51,10 +40,10 @@ pub(crate) fn row_of(place: Place, question: Question) -> Option<Row>
 {
     let at = question.positions(place)?;
     let mut row = [0; ROW];
-    row[..COST].copy_from_slice(&place_numbers(place));
-    row[COST] = place.cost();
-    row[AT..ASKED].copy_from_slice(&at);
-    row[ASKED] = question.asked_position(place);
+    row[..COST_AT].copy_from_slice(&place_numbers(place));
+    row[COST_AT] = place.cost();
+    row[POSITIONS_AT..ASKED_AT].copy_from_slice(&at);
+    row[ASKED_AT] = question.asked_position(place);
     Some(row)
 }
 
@@ -62,5 +51,5 @@ pub(crate) fn row_of(place: Place, question: Question) -> Option<Row>
 pub(crate) fn lie_alike(row: &Row, other: &Row) -> bool
     ensures { result ≡ alike row.now other.now }
 {
-    row[AT..] == other[AT..]
+    row[POSITIONS_AT..] == other[POSITIONS_AT..]
 }

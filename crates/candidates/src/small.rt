@@ -4,13 +4,12 @@ ghost use Rattle.candidates.specs.Rows.{small_text, small_example, small_example
 ghost use Rattle.candidates.specs.Values.{the_example, the_examples};
 
 use crate::example::Example;
-
-const MOST_EXAMPLES: usize = 8;
+use crate::memory::{MOST_BYTES, MOST_EXAMPLES};
 
 fn is_small_text(text: &[u8]) -> bool
     ensures { result ≡ small_text text.now }
 {
-    text.len() <= 64
+    text.len() <= MOST_BYTES
 }
 
 fn is_small(example: &Example) -> bool

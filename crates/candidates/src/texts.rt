@@ -6,15 +6,7 @@ ghost use Rattle.candidates.specs.Rows.{short_example};
 ghost use Rattle.candidates.specs.Values.{the_example, the_examples};
 
 use crate::example::Example;
-
-// An example's numbers: the lengths of its two texts, and 64 for each text.
-const EXAMPLE: usize = 130;
-
-// Where the given text begins among them.
-const GIVEN: usize = 2;
-
-// And the wanted one.
-const WANTED: usize = 66;
+use crate::memory::{EXAMPLE, GIVEN_AT, WANTED_AT};
 
 // Lays down a text from a position on.
 fn put_text(out: &mut [u64], at: usize, text: &[u8])
@@ -35,8 +27,8 @@ fn put_example(out: &mut [u64], e: usize, example: &Example)
 {
     out[EXAMPLE * e] = example.given.len() as u64;
     out[EXAMPLE * e + 1] = example.wanted.len() as u64;
-    put_text(out, EXAMPLE * e + GIVEN, example.given);
-    put_text(out, EXAMPLE * e + WANTED, example.wanted);
+    put_text(out, EXAMPLE * e + GIVEN_AT, example.given);
+    put_text(out, EXAMPLE * e + WANTED_AT, example.wanted);
 }
 
 // Lays down the texts of all examples.
