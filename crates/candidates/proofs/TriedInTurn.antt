@@ -10,9 +10,8 @@ use Rattle.candidates.specs.declared.question.Question.{Question}
 use Rattle.candidates.specs.declared.table.Table as declared
 use Rattle.candidates.specs.Rows.{lies_in_all}
 use Rattle.candidates.specs.RowTable.{Table, row_of, added, tried, all_tried}
-use Rattle.candidates.specs.Tables.{the_table, Becomes, tried_for, all_tried_for}
+use Rattle.candidates.specs.Tables.{examples_of, asked_of, the_table, Becomes, tried_for, all_tried_for}
 use Rattle.candidates.proofs.RowAdded.{becomes_as}
-use Rattle.candidates.specs.Values.{examples_of, asked_of}
 use Rattle.candidates.proofs.TableRows.{flat_append}
 
 module _ (q : Question) where

@@ -1,10 +1,18 @@
--- The tables that a program fills, as those that the definitions speak of. Assumes nothing: these are definitions.
+-- Questions and the tables that a program fills for them, as those that the definitions speak of. Assumes nothing: these are definitions.
 use Rattle.std.specs.Prelude.{◌≡◌, ℕ, ◌<◌, List, Option, MatchOption}
+use Rattle.rules.specs.Examples.{Example}
 use Rattle.rules.specs.Places.{Place}
 use Rattle.candidates.specs.declared.question.Question.{Question}
 use Rattle.candidates.specs.declared.table.Table as declared
 use Rattle.candidates.specs.RowTable.{Table, alike_at, tried, all_tried, first_given}
-use Rattle.candidates.specs.Values.{examples_of, asked_of}
+use Rattle.candidates.specs.Values.{the_examples, the_asked}
+
+-- a question's examples, and its text that may be asked about
+abbrev pub examples_of : Question → List Example
+examples_of q = the_examples q.examples.now
+
+abbrev pub asked_of : Question → List (List ℕ)
+asked_of q = the_asked q.asked
 
 abbrev pub the_table : declared.Table → Table
 the_table t = record { numbers = t.numbers.now; rows = t.rows }

@@ -4,7 +4,6 @@ use Rattle.std.specs.Borrow.{Bor}
 use Rattle.rules.specs.Lists.{each}
 use Rattle.rules.specs.Examples as examples
 use Rattle.candidates.specs.declared.example.Example.{Example}
-use Rattle.candidates.specs.declared.question.Question.{Question}
 
 abbrev pub the_example : Example → examples.Example
 the_example e = record { given = e.given.now; wanted = e.wanted.now }
@@ -16,10 +15,3 @@ the_examples es = each the_example es
 abbrev pub the_asked : Option (Bor (List ℕ)) → List (List ℕ)
 the_asked None = []
 the_asked (Some t) = t.now ∷ []
-
--- a question's examples, and its text that may be asked about
-abbrev pub examples_of : Question → List examples.Example
-examples_of q = the_examples q.examples.now
-
-abbrev pub asked_of : Question → List (List ℕ)
-asked_of q = the_asked q.asked

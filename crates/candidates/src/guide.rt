@@ -1,15 +1,13 @@
 // A lower bound of the weight that one example alone still needs, by position in its wanted text and by the number of parts.
 ghost use Rattle.std.specs.List.{zip, prefix_len};
-ghost use Rattle.std.specs.Prelude.{◌≡◌, ◌==◌, ℕ, ◌+◌, ◌*◌, ◌<◌, ◌≤◌, true, [], length, drop, replicate, slice_index_or};
-ghost use Rattle.rules.specs.Lists.{every};
+ghost use Rattle.std.specs.Prelude.{◌≡◌, ◌==◌, ℕ, ◌+◌, ◌*◌, ◌<◌, ◌≤◌, [], length, drop, replicate, slice_index_or};
 ghost use Rattle.candidates.specs.Guide.{lowered, least_costs, all_costs, along, steps, least_in, needed_with, column_in, NoneAbove};
 ghost use Rattle.candidates.specs.Guide.{with_column, columns, laid_columns, guides_laid};
-ghost use Rattle.candidates.specs.Rows.{short_example};
 ghost use Rattle.candidates.specs.RowTable.{table_size, most_rows};
-ghost use Rattle.candidates.specs.Values.{the_examples};
+ghost use Rattle.candidates.specs.Tables.{examples_of};
 
-use crate::example::Example;
 use crate::memory::{COLUMN, GUIDE, MOST_BYTES, MOST_EXAMPLES, POSITIONS};
+use crate::question::Question;
 use crate::rows::Rows;
 use crate::weight::{cut_weight, literal_weight};
 use std::array;
@@ -203,15 +201,13 @@ impl<'a> CostedExample<'a> {
 pub(crate) fn lay_guides(
     out: &mut [u64],
     costs: &[[u64; POSITIONS]; MOST_EXAMPLES],
-    examples: &[Example],
+    question: Question,
 )
     requires size { length out.old ≡ 4680 }
     requires costs_small { (e : ℕ) → e < 8 → NoneAbove 255 (slice_index_or costs.now e []) }
-    requires few { length examples.now ≤ 8 }
-    requires short { every short_example (the_examples examples.now) ≡ true }
-    ensures { out.new ≡ guides_laid costs.now (the_examples examples.now) (length examples.now) out.old }
+    ensures { out.new ≡ guides_laid costs.now (examples_of question.entry) (length question.entry.examples.now) out.old }
 {
-    for (e, example) in examples.iter().enumerate() {
+    for (e, example) in question.examples.iter().enumerate() {
         let costed = CostedExample {
             costs: &costs[e],
             given: example.given,

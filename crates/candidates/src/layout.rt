@@ -23,9 +23,10 @@ pub fn lay(numbers: &mut [u64], examples: &[Example], asked: Option<&[u8]>)
     let (head, rest) = numbers.split_at_mut(TEXTS_AT);
     let (texts, rest) = rest.split_at_mut(GUIDES_AT - TEXTS_AT);
     let (guide, table) = rest.split_at_mut(ROWS_AT - GUIDES_AT);
-    lay_texts(texts, examples);
-    let rows = lay_rows(table, Question { examples, asked });
-    lay_guides(guide, &all_costs(table, rows), examples);
+    let question = Question { examples, asked };
+    lay_texts(texts, question);
+    let rows = lay_rows(table, question);
+    lay_guides(guide, &all_costs(table, rows), question);
     head[0] = examples.len() as u64;
     head[1] = rows as u64;
 }

@@ -4,7 +4,7 @@ ghost use Rattle.rules.specs.Values.{the_place};
 ghost use Rattle.candidates.specs.Positions.{positions_in};
 ghost use Rattle.candidates.specs.RowTable.{asked_position, first_given};
 ghost use Rattle.candidates.specs.Rows.{IfThere};
-ghost use Rattle.candidates.specs.Values.{examples_of, asked_of};
+ghost use Rattle.candidates.specs.Tables.{examples_of, asked_of};
 
 use crate::question::Question;
 use rules::Place;

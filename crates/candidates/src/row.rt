@@ -3,7 +3,7 @@ ghost use Rattle.std.specs.Prelude.{◌≡◌};
 ghost use Rattle.rules.specs.Values.{the_place};
 ghost use Rattle.candidates.specs.RowTable.{place_numbers, row_of, alike};
 ghost use Rattle.candidates.specs.Rows.{IfThere};
-ghost use Rattle.candidates.specs.Values.{examples_of, asked_of};
+ghost use Rattle.candidates.specs.Tables.{examples_of, asked_of};
 
 use crate::memory::{ASKED_AT, COST_AT, POSITIONS_AT, ROW};
 use crate::question::Question;

@@ -1,12 +1,13 @@
 // The texts of the examples in lent numbers, one number for each byte.
 ghost use Rattle.std.specs.Prelude.{◌≡◌, ◌+◌, ◌<◌, ◌≤◌, true, length};
-ghost use Rattle.rules.specs.Lists.{every};
 ghost use Rattle.candidates.specs.LaidProblem.{with_text, with_example, texts_laid};
 ghost use Rattle.candidates.specs.Rows.{short_example};
-ghost use Rattle.candidates.specs.Values.{the_example, the_examples};
+ghost use Rattle.candidates.specs.Tables.{examples_of};
+ghost use Rattle.candidates.specs.Values.{the_example};
 
 use crate::example::Example;
 use crate::memory::{EXAMPLE, GIVEN_AT, WANTED_AT};
+use crate::question::Question;
 
 // Lays down a text from a position on.
 fn put_text(out: &mut [u64], at: usize, text: &[u8])
@@ -32,13 +33,11 @@ fn put_example(out: &mut [u64], e: usize, example: &Example)
 }
 
 // Lays down the texts of all examples.
-pub(crate) fn lay_texts(out: &mut [u64], examples: &[Example])
+pub(crate) fn lay_texts(out: &mut [u64], question: Question)
     requires size { length out.old ≡ 1170 }
-    requires few { length examples.now ≤ 8 }
-    requires short { every short_example (the_examples examples.now) ≡ true }
-    ensures { out.new ≡ texts_laid (the_examples examples.now) (length examples.now) out.old }
+    ensures { out.new ≡ texts_laid (examples_of question.entry) (length question.entry.examples.now) out.old }
 {
-    for (e, example) in examples.iter().enumerate() {
+    for (e, example) in question.examples.iter().enumerate() {
         put_example(out, e, example);
     }
 }

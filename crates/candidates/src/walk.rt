@@ -5,8 +5,7 @@ ghost use Rattle.rules.specs.Places.{all_of};
 ghost use Rattle.rules.specs.Values.{the_place, kind_number};
 ghost use Rattle.candidates.specs.Places.{counted, places_between, places_among, places_in};
 ghost use Rattle.candidates.specs.RowTable.{table_for, table_size, most_rows};
-ghost use Rattle.candidates.specs.Tables.{the_table, Becomes, Tries, tried_for, first_of};
-ghost use Rattle.candidates.specs.Values.{examples_of, asked_of};
+ghost use Rattle.candidates.specs.Tables.{examples_of, asked_of, the_table, Becomes, Tries, tried_for, first_of};
 ghost use Rattle.candidates.specs.Weights.{smaller};
 
 use crate::kinds::kinds_in;

@@ -10,8 +10,8 @@ unfolding texts_laid
 loop-e-init c = refl
 
 pub loop-e-preserved : goal.loop-e-preserved
-loop-e-preserved c = texts_goes_on c.args.examples.now c.args.out.now c.loop-e.out c.put_example.new.out c.loop-e.e _
+loop-e-preserved c = texts_goes_on c.args.question.examples.now c.args.out.now c.loop-e.out c.put_example.new.out c.loop-e.e _
     (omega arith) c.put_example.ensures c.loop-e.invariant
 
 pub put_example-requires-clause-short : goal.put_example-requires-clause-short
-put_example-requires-clause-short c = example_short c.args.examples.now c.loop-e.e _ c.loop-e-test.true c.requires.short
+put_example-requires-clause-short c = example_short c.args.question.examples.now c.loop-e.e _ c.loop-e-test.true c.args.question.short
