@@ -2,6 +2,7 @@
 use Rattle.std.specs.Prelude.{ℕ, List}
 use denote.Ref.{MutBor}
 use Rattle.search.specs.declared.search.Search.{Search}
+use Rattle.search.specs.declared.seen.Seen.{Seen}
 
 -- the memory as it was lent
 abbrev pub lent : Search → MutBor (List ℕ)
@@ -10,3 +11,7 @@ lent s = s.memory
 -- the numbers that are in it
 abbrev pub the_memory : Search → List ℕ
 the_memory s = s.memory.now
+
+-- the same where the memory is only read
+abbrev pub seen_memory : Seen → List ℕ
+seen_memory s = s.memory.now

@@ -10,6 +10,7 @@ mod progress;
 mod promises;
 mod refusal;
 mod search;
+mod seen;
 mod spelled;
 mod start;
 mod status;
@@ -23,4 +24,5 @@ pub use promises::{
 };
 pub use refusal::Refusal;
 pub use search::{MEMORY, Search};
+pub use seen::Seen;
 pub use status::Status;

@@ -33,8 +33,9 @@ impl Search<'_> {
         ensures memory { the_memory self.new ≡ stepped_by steps (the_memory self.old) }
         ensures status { result ≡ (held_steps (problem_in (the_memory self.old)) steps (loaded (the_memory self.old))).status }
     {
-        let mut machine = self.machine();
-        machine.run(self.problem(), steps);
+        let seen = self.seen();
+        let mut machine = seen.machine();
+        machine.run(seen.problem(), steps);
         self.keep(&machine);
         machine.status
     }

@@ -1,9 +1,9 @@
 // Where a search stands.
 ghost use Rattle.search.specs.Memory.{loaded, problem_in};
 ghost use Rattle.search.specs.Progress.{Stands};
-ghost use Rattle.search.specs.Searched.{the_memory};
+ghost use Rattle.search.specs.Searched.{seen_memory};
 
-use crate::search::Search;
+use crate::seen::Seen;
 use crate::status::Status;
 
 #[derive(Clone, Copy, PartialEq, Eq, Debug)]
@@ -17,10 +17,10 @@ pub struct Progress {
     pub rows: usize,
 }
 
-impl Search<'_> {
+impl Seen<'_> {
     // Where the search stands.
-    pub fn standing(&self) -> Progress
-        ensures { Stands (loaded (the_memory self.now)) (problem_in (the_memory self.now)).rows result }
+    pub fn standing(self) -> Progress
+        ensures { Stands (loaded (seen_memory self.entry)) (problem_in (seen_memory self.entry)).rows result }
     {
         let machine = self.machine();
         Progress {

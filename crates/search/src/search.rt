@@ -4,7 +4,8 @@ ghost use Rattle.search.specs.Memory.{memory_size};
 
 use crate::machine::Machine;
 use crate::memory::MACHINE;
-use candidates::{Example, Problem, lay};
+use crate::seen::Seen;
+use candidates::{Example, lay};
 
 // So many numbers of memory a search takes.
 pub const MEMORY: usize = 109958;
@@ -18,11 +19,10 @@ pub struct Search<'a> {
 impl<'a> Search<'a> {
     ghost use Rattle.candidates.specs.Rows.{small_examples};
     ghost use Rattle.candidates.specs.Values.{the_examples};
-    ghost use Rattle.candidates.specs.Viewed.{the_view};
     ghost use Rattle.search.specs.Begun.{with_problem};
     ghost use Rattle.search.specs.Holds.{the_held};
-    ghost use Rattle.search.specs.Memory.{loaded, stored, problem_in};
-    ghost use Rattle.search.specs.Searched.{lent, the_memory};
+    ghost use Rattle.search.specs.Memory.{stored};
+    ghost use Rattle.search.specs.Searched.{lent, the_memory, seen_memory};
 
     // The search that lies in this memory, or is to be begun there.
     pub fn over(memory: &'a mut [u64]) -> Search<'a>
@@ -33,11 +33,11 @@ impl<'a> Search<'a> {
         Search { memory }
     }
 
-    // The problem, as it lies in memory.
-    pub(crate) fn problem(&self) -> Problem<'_>
-        ensures { the_view result ≡ problem_in (the_memory self.now) }
+    // The same, to be read.
+    pub fn seen(&self) -> Seen<'_>
+        ensures { seen_memory result ≡ the_memory self.now }
     {
-        Problem::of(&self.memory[MACHINE..MEMORY])
+        Seen::over(self.memory)
     }
 
     // Lays down the problem of the examples.
@@ -47,13 +47,6 @@ impl<'a> Search<'a> {
         ensures memory { the_memory self.new ≡ with_problem (the_examples examples.now) (the_memory self.old) }
     {
         lay(&mut self.memory[MACHINE..MEMORY], examples, None);
-    }
-
-    // The machine, as it lies in memory.
-    pub(crate) fn machine(&self) -> Machine
-        ensures { the_held result ≡ loaded (the_memory self.now) }
-    {
-        Machine::load(self.memory)
     }
 
     // Lays the machine down.

@@ -3,11 +3,11 @@ ghost use Rattle.std.specs.Prelude.{◌≡◌, ◌+◌, ◌≤◌, length};
 ghost use Rattle.rules.specs.Answers.{written};
 ghost use Rattle.candidates.specs.Viewed.{the_view};
 ghost use Rattle.search.specs.Memory.{loaded, problem_in};
-ghost use Rattle.search.specs.Searched.{the_memory};
+ghost use Rattle.search.specs.Searched.{seen_memory};
 ghost use Rattle.search.specs.Spelled.{frames_spelled, spelled_in};
 
 use crate::machine::Machine;
-use crate::search::Search;
+use crate::seen::Seen;
 use candidates::Problem;
 use rules::put;
 
@@ -28,13 +28,13 @@ impl Machine {
     }
 }
 
-impl Search<'_> {
+impl Seen<'_> {
     // Spells the rule that the search has found, and says with how many bytes.
-    pub fn spell(&self, out: &mut [u8]) -> usize
+    pub fn spell(self, out: &mut [u8]) -> usize
         requires { 529 ≤ length out.old }
-        ensures value { result ≡ length (spelled_in (problem_in (the_memory self.now)) (loaded (the_memory self.now))) }
+        ensures value { result ≡ length (spelled_in (problem_in (seen_memory self.entry)) (loaded (seen_memory self.entry))) }
         ensures bound { result ≤ 529 }
-        ensures after { out.new ≡ written out.old 0 (spelled_in (problem_in (the_memory self.now)) (loaded (the_memory self.now))) }
+        ensures after { out.new ≡ written out.old 0 (spelled_in (problem_in (seen_memory self.entry)) (loaded (seen_memory self.entry))) }
     {
         let machine = self.machine();
         put(out, 0, &[machine.depth as u8]);

@@ -19,8 +19,9 @@ impl Search<'_> {
     {
         check_examples(examples)?;
         self.lay(examples);
-        let mut machine = self.machine();
-        machine.begin(self.problem());
+        let seen = self.seen();
+        let mut machine = seen.machine();
+        machine.begin(seen.problem());
         self.keep(&machine);
         Ok(())
     }

@@ -2,7 +2,7 @@ use Rattle.std.proofs.Common.{arith}
 use Rattle.candidates.specs.Viewed.{the_view}
 use Rattle.search.specs.Holds.{the_held}
 use Rattle.search.proofs.PartsInTurn.{rule_put}
-use Rattle.search.proofs.search.Search.spell.Goals as goal
+use Rattle.search.proofs.seen.Seen.spell.Goals as goal
 
 pub returns : goal.returns
 returns c =
