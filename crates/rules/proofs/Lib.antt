@@ -28,4 +28,3 @@ pub mod ReadIsSpelling
 pub mod MadeIsShort
 pub mod NthCounts
 pub mod NthSpot
-pub mod FitsCounted
