@@ -11,7 +11,7 @@ use crate::place::Place;
 fn there(text: &[u8], kind: Kind, at: usize) -> bool
     ensures { result ≡ there text.now (kind_number kind) at }
 {
-    at < text.len() && kind.has(text[at])
+    text.get(at).is_some_and(|byte| kind.has(*byte))
 }
 
 // Whether this kind stands before the place: of a run, its end.
@@ -68,15 +68,12 @@ pub fn count_between(text: &[u8], left: Kind, right: Kind) -> usize
 
 impl Place {
     // Where the place is in a text, if it is there.
+    #[tactic(auto, unfolding(crate::specs::Places::spot))]
     pub fn spot(self, text: &[u8]) -> Option<usize>
         ensures { option_to_list result ≡ spot text.now (the_place self) }
     {
         match self {
-            Place::FromFirst(n) => if n as usize <= text.len() {
-                Some(n as usize)
-            } else {
-                None
-            },
+            Place::FromFirst(n) => (n as usize <= text.len()).then_some(n as usize),
             Place::FromLast(n) => text.len().checked_sub(n as usize),
             Place::NthOf {
                 left,
