@@ -31,6 +31,7 @@ fn offset_cost(n: u8) -> u64
 }
 
 impl Place {
+    #[tactic(auto, unfolding(crate::specs::Rules::place_cost))]
     pub fn cost(self) -> u64
         ensures value { result ≡ place_cost (the_place self) }
         ensures bound { result ≤ 260 }

@@ -13,9 +13,7 @@ fn middle(text: &[u8], from: Option<usize>, to: Option<usize>) -> Option<&[u8]>
     requires { every (λ k. nat_le k (length text.now)) (option_to_list to) ≡ true }
     ensures { slice_made result ≡ from_to text.now (option_to_list from) (option_to_list to) }
 {
-    let a = from?;
-    let b = to?;
-    if a <= b { Some(&text[a..b]) } else { None }
+    text.get(from?..to?)
 }
 
 impl Cut {
@@ -29,11 +27,12 @@ impl Cut {
 
 impl Part {
     // What the part makes of a text.
+    #[tactic(auto, unfolding(crate::specs::Rules::part_of))]
     pub fn makes<'a>(&'a self, text: &'a [u8]) -> Option<&'a [u8]>
         ensures { slice_made result ≡ part_of text.now (the_part self.now) }
     {
         match self {
-            Part::Bytes(literal) => Some(literal.as_slice()),
+            Part::Bytes(literal) => Some(literal),
             Part::Cut(cut) => cut.of(text),
         }
     }

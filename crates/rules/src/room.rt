@@ -17,8 +17,5 @@ pub fn put(out: &mut [u8], at: usize, bytes: &[u8])
 pub(crate) fn room_after(left: Option<usize>, more: usize) -> Option<usize>
     ensures { result ≡ room_after left more }
 {
-    match left {
-        Some(room) => room.checked_sub(more),
-        None => None,
-    }
+    left?.checked_sub(more)
 }

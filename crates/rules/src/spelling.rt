@@ -13,6 +13,7 @@ use crate::room::{NoRoom, put};
 use crate::rule::Rule;
 
 // How many bytes a place is spelled with.
+#[tactic(auto, unfolding(crate::specs::Order::place_spelled))]
 fn place_length(place: Place) -> usize
     ensures value { result ≡ length (place_spelled (the_place place)) }
     ensures bound { result ≤ 7 }
@@ -49,6 +50,7 @@ fn parts_length(parts: &[Part]) -> usize
 }
 
 // Spells a place from `at` on, and says where its spelling ends.
+#[tactic(auto, unfolding(crate::specs::Order::place_spelled))]
 fn put_place(out: &mut [u8], at: usize, place: Place) -> usize
     requires { at + length (place_spelled (the_place place)) ≤ length out.old }
     ensures value { result ≡ at + length (place_spelled (the_place place)) }
