@@ -1,8 +1,8 @@
 -- Going through the parts of a rule measures what it makes, and writes it.
-use Rattle.std.proofs.Common.{◌≡◌, ℕ, ◌+◌, ◌-◌, ◌<◌, ◌≤◌, Bool, true, false, leb, List, [], ◌∷◌, ◌++◌, length, get_or, take, drop, Some, None, Ok, Err, Option, sym, refl, ap, ◌∙◌, subst, ap₂, subst₂, arith, length-append}
+use Rattle.std.proofs.Common.{◌≡◌, ℕ, ◌+◌, ◌-◌, ◌^◌, ◌<◌, ◌≤◌, min, Bool, true, false, leb, List, [], ◌∷◌, ◌++◌, length, get_or, take, drop, Some, None, Ok, Err, Option, sym, refl, ap, ◌∙◌, subst, ap₂, subst₂, arith, length-append}
 use Rattle.std.proofs.lemmas.List.{take-append-drop, take_all}
 use Rattle.std.proofs.lemmas.Bool.{le-leb, lt-leb, leb-true, leb-false}
-use Rattle.rules.specs.Answers.{written, written_left, made_told, made_left, FitsIn, room_after}
+use Rattle.rules.specs.Answers.{written, written_left, counted, made_told, made_left, FitsIn}
 use Rattle.rules.specs.Lists.{pick}
 use Rattle.rules.specs.Promises.{made_length}
 use Rattle.rules.specs.Rules.{Made, nothing, made, with_made, makes, part_of}
@@ -45,31 +45,19 @@ module _ (ps : List declared.Part) (t : List ℕ) where
   all_so_far i h = ap (λ l. makes (the_parts l) t) (take_all i ps h)
 
 -- MEASURING
--- bytes were made, and so much room is left of what there was; or there was not enough
-abbrev pub Left : Made → ℕ → Option ℕ → Type 0
-Left nothing room o = ⊥
-Left (made bs) room None = room < length bs
-Left (made bs) room (Some k) = k + length bs ≡ room
+-- bytes were made, and this is their number, or the largest of 64 bits
+abbrev pub Measured : Made → ℕ → Type 0
+Measured nothing n = ⊥
+Measured (made bs) n = n ≡ min (length bs) (2 ^ 64 - 1)
 
-pub left_more : (m : Made) (room : ℕ) (o : Option ℕ) (b : List ℕ) → Left m room o → Left (with_made m (made b)) room (room_after o (length b))
+measured_more : (m : Made) (n : ℕ) (b : List ℕ) → Measured m n → Measured (with_made m (made b)) (min (n + length b) (2 ^ 64 - 1))
 unfolding with_made
-left_more nothing room o b h = absurd h
-left_more (made a) room None b h = let n = length-append a b in omega arith
-left_more (made a) room (Some k) b h = by_room (leb (length b) k) refl
-  where
-    by_room : (x : Bool) → leb (length b) k ≡ x → Left (made (a ++ b)) room (pick x (Some (k - length b)) None)
-    by_room true e = let n = length-append a b in let l = leb-true (length b) k e in omega arith
-    by_room false e = let n = length-append a b in let l = leb-false (length b) k e in omega arith
+measured_more nothing n b h = absurd h
+measured_more (made a) n b h = let long = length-append a b in omega arith
 
-pub left_told : (m : Made) (room k : ℕ) → Left m room (Some k) → Ok (Some (room - k)) ≡ made_told m room
-left_told nothing room k h = absurd h
-left_told (made a) room k h =
-    let n : room - k ≡ length a = omega arith in
-    ap (λ x. Ok (Some x)) n ∙ ap (λ x. pick x (Ok (Some (length a))) (Err (record {}))) (sym (le-leb (length a) room (omega arith)))
-
-pub none_left_told : (m : Made) (room : ℕ) → Left m room None → Err (record {}) ≡ made_told m room
-none_left_told nothing room h = absurd h
-none_left_told (made a) room h = ap (λ x. pick x (Ok (Some (length a))) (Err (record {}))) (sym (lt-leb (length a) room h))
+measured_told : (m : Made) (n : ℕ) → Measured m n → Some n ≡ counted m
+measured_told nothing n h = absurd h
+measured_told (made a) n h = ap (λ k. Some k) h
 
 -- WRITING
 -- where what is made fits, so does its front
@@ -124,28 +112,24 @@ no_part_is_nothing m n room e h = then_none m (subst (λ x. FitsIn (with_made m 
 
 -- ONE TURN OF EACH LOOP, and its end
 module _ (ps : List declared.Part) (t : List ℕ) where
-  pub measured_all : (i room k : ℕ) (o : Option ℕ) → Left (so_far ps t i) room o → length ps ≤ i → o ≡ Some k → Ok (Some (room - k)) ≡ made_told (makes (the_parts ps) t) room
-  measured_all i room k o l h e =
-      left_told (makes (the_parts ps) t) room k (subst₂ (λ m x. Left m room x) (all_so_far ps t i h) e l)
-
-  pub measured_no_room : (i room : ℕ) (o : Option ℕ) → Left (so_far ps t i) room o → length ps ≤ i → o ≡ None → Err (record {}) ≡ made_told (makes (the_parts ps) t) room
-  measured_no_room i room o l h e = none_left_told (makes (the_parts ps) t) room (subst₂ (λ m x. Left m room x) (all_so_far ps t i h) e l)
+  pub measured_all : (i n : ℕ) → Measured (so_far ps t i) n → length ps ≤ i → Some n ≡ counted (makes (the_parts ps) t)
+  measured_all i n m h = measured_told (makes (the_parts ps) t) n (subst (λ x. Measured x n) (all_so_far ps t i h) m)
 
   pub written_all : (i : ℕ) (out₀ out : List ℕ) (at : ℕ) → Written (so_far ps t i) out₀ out at → length ps ≤ i → out ≡ made_left (makes (the_parts ps) t) out₀
   written_all i out₀ out at w h = w.so ∙ ap (λ m. made_left m out₀) (all_so_far ps t i h)
 
-  module _ (i : ℕ) (p : declared.Part) (h : i < length ps) (e : p ≡ get_or ps i p) where
-    pub measured_nothing : (room : ℕ) → nothing ≡ part_of t (the_part p) → Ok None ≡ made_told (makes (the_parts ps) t) room
-    measured_nothing room n = ap (λ m. made_told m room) (sym (part_is_nothing ps t i p h e n))
+  module _ (i : ℕ) (p : declared.Part) (h : i < length ps) (e₁ : p ≡ get_or ps i p) where
+    pub measured_nothing : nothing ≡ part_of t (the_part p) → None ≡ counted (makes (the_parts ps) t)
+    measured_nothing n = ap counted (sym (part_is_nothing ps t i p h e₁ n))
 
-    pub measured_more : (room : ℕ) (o more : Option ℕ) (b : List ℕ) → Left (so_far ps t i) room o → made b ≡ part_of t (the_part p) → more ≡ room_after o (length b) → Left (so_far ps t (i + 1)) room more
-    measured_more room o more b l n is =
-        subst₂ (λ m x. Left m room x) (sym (one_part_more ps t i p h e ∙ ap (with_made (so_far ps t i)) (sym n))) (sym is) (left_more (so_far ps t i) room o b l)
+    pub measured_part : (n more : ℕ) (b : List ℕ) → Measured (so_far ps t i) n → made b ≡ part_of t (the_part p) → more ≡ min (n + length b) (2 ^ 64 - 1) → Measured (so_far ps t (i + 1)) more
+    measured_part n more b m is e =
+        subst₂ Measured (sym (one_part_more ps t i p h e₁ ∙ ap (with_made (so_far ps t i)) (sym is))) (sym e) (measured_more (so_far ps t i) n b m)
 
     module _ (out₀ out : List ℕ) (at : ℕ) (w : Written (so_far ps t i) out₀ out at) (all : FitsIn (makes (the_parts ps) t) (length out₀)) where
       next_fits : FitsIn (with_made (so_far ps t i) (part_of t (the_part p))) (length out₀)
       next_fits =
-          subst (λ m. FitsIn m (length out₀)) (one_part_more ps t i p h e)
+          subst (λ m. FitsIn m (length out₀)) (one_part_more ps t i p h e₁)
           (front_fits (so_far ps t (i + 1)) (to_come ps t (i + 1)) (length out₀) (subst (λ m. FitsIn m (length out₀)) (in_two ps t (i + 1)) all))
 
       fits_with : (b : List ℕ) → made b ≡ part_of t (the_part p) → FitsIn (with_made (so_far ps t i) (made b)) (length out₀)
@@ -157,7 +141,7 @@ module _ (ps : List declared.Part) (t : List ℕ) where
       pub written_more : (b more : List ℕ) (then : ℕ) → made b ≡ part_of t (the_part p) → more ≡ written out at b → then ≡ at + length b → Written (so_far ps t (i + 1)) out₀ more then
       written_more b more then n is is_at =
           let one = piece_written (so_far ps t i) out₀ out at w b (fits_with b n) in
-          subst (λ m. Written m out₀ more then) (sym (one_part_more ps t i p h e ∙ ap (with_made (so_far ps t i)) (sym n)))
+          subst (λ m. Written m out₀ more then) (sym (one_part_more ps t i p h e₁ ∙ ap (with_made (so_far ps t i)) (sym n)))
           (record { so_long = is_at ∙ one.so_long; so = is ∙ one.so })
 
       pub written_never : nothing ≡ part_of t (the_part p) → ⊥

@@ -1,5 +1,5 @@
 -- What the functions of src/ answer, in terms of the definitions; and what they leave in memory that was lent to them. Assumes nothing: these are definitions.
-use Rattle.std.specs.Prelude.{ℕ, ◌+◌, ◌-◌, ◌≤◌, List, ◌++◌, length, take, drop, Some, None, Ok, Err, Option, Result, nat_le}
+use Rattle.std.specs.Prelude.{ℕ, ◌+◌, ◌-◌, ◌^◌, ◌≤◌, min, List, ◌++◌, length, take, drop, Some, None, Ok, Err, Option, Result, nat_le}
 use Rattle.std.specs.Borrow.{Bor}
 use Rattle.rules.specs.Lists.{pick}
 use Rattle.rules.specs.Rules.{Made, nothing, made}
@@ -36,7 +36,7 @@ abbrev pub FitsIn : Made → ℕ → Type 0
 FitsIn nothing room = ⊥
 FitsIn (made bs) room = length bs ≤ room
 
--- the room that is left after n more bytes, if there is any for them
-abbrev pub room_after : Option ℕ → ℕ → Option ℕ
-room_after None n = None
-room_after (Some k) n = pick (nat_le n k) (Some (k - n)) None
+-- how many bytes are made, or the largest number of 64 bits where they are more
+abbrev pub counted : Made → Option ℕ
+counted nothing = None
+counted (made bs) = Some (min (length bs) (2 ^ 64 - 1))

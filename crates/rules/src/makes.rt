@@ -1,29 +1,23 @@
 // What a rule makes of a text, into lent bytes.
 ghost use Rattle.std.specs.Prelude.{◌≡◌, length};
-ghost use Rattle.rules.specs.Answers.{made_told, made_left, FitsIn};
+ghost use Rattle.rules.specs.Answers.{counted, made_told, made_left, FitsIn};
 ghost use Rattle.rules.specs.Rules.{makes};
 ghost use Rattle.rules.specs.Values.{the_parts};
 ghost use Rattle.rules.specs.Held.{the_rule};
 
 use crate::part::Part;
-use crate::room::{NoRoom, put, room_after};
+use crate::room::{NoRoom, put};
 use crate::rule::Rule;
 
-// How many bytes the parts make of a text, where there is so much room.
-fn measure(parts: &[Part], text: &[u8], room: usize) -> Result<Option<usize>, NoRoom>
-    ensures { result ≡ made_told (makes (the_parts parts.now) text.now) room }
+// How many bytes the parts make of a text, or the largest `usize` where they are more; `None` where a part makes nothing.
+fn measure(parts: &[Part], text: &[u8]) -> Option<usize>
+    ensures { result ≡ counted (makes (the_parts parts.now) text.now) }
 {
-    let mut left = Some(room);
+    let mut total = 0usize;
     for part in parts {
-        let Some(piece) = part.makes(text) else {
-            return Ok(None);
-        };
-        left = room_after(left, piece.len());
+        total = total.saturating_add(part.makes(text)?.len());
     }
-    match left {
-        Some(left) => Ok(Some(room - left)),
-        None => Err(NoRoom),
-    }
+    Some(total)
 }
 
 // Writes what the parts make, one after the other.
@@ -47,10 +41,13 @@ impl Rule {
         ensures value { result ≡ made_told (makes (the_rule self.now) text.now) (length out.old) }
         ensures after { out.new ≡ made_left (makes (the_rule self.now) text.now) out.old }
     {
-        let made = measure(self.parts(), text, out.len())?;
-        if made.is_some() {
-            write_parts(self.parts(), text, out);
+        let Some(total) = measure(self.parts(), text) else {
+            return Ok(None);
+        };
+        if total > out.len() {
+            return Err(NoRoom);
         }
-        Ok(made)
+        write_parts(self.parts(), text, out);
+        Ok(Some(total))
     }
 }
