@@ -12,7 +12,10 @@ use crate::place::Place;
 use crate::rule::Rule;
 use std::alloc::Global;
 
-fn read_byte(bytes: &[u8]) -> Result<(u8, &[u8]), Fault>
+// What was read at the front of some bytes, and the bytes behind it; or what is wrong.
+type Reading<'a, T> = Result<(T, &'a [u8]), Fault>;
+
+fn read_byte(bytes: &[u8]) -> Reading<'_, u8>
     ensures { read_as (λ b. b) result ≡ read_byte bytes.now }
 {
     let [byte, rest @ ..] = bytes else {
@@ -26,7 +29,7 @@ fn read_kind(high: u8, low: u8) -> Result<Kind, Fault>
     ensures { MatchResult result (λ k. (kind_number k ≡ number high low) × (a_kind (number high low) ≡ true)) (λ f. (f ≡ KindNumber (number high low)) × (a_kind (number high low) ≡ false)) }
 {
     let number = 256 * high as u16 + low as u16;
-    Kind::try_from(number as u64).map_err(|_| Fault::KindNumber(number))
+    Kind::try_from(u64::from(number)).map_err(|_| Fault::KindNumber(number))
 }
 
 // Whether a byte says that places are counted from the end.
@@ -40,7 +43,7 @@ fn read_back(byte: u8) -> Result<bool, Fault>
     }
 }
 
-fn read_nth(bytes: &[u8]) -> Result<(Place, &[u8]), Fault>
+fn read_nth(bytes: &[u8]) -> Reading<'_, Place>
     ensures { read_as the_place result ≡ read_nth bytes.now }
 {
     let [a, b, c, d, n, back, rest @ ..] = bytes else {
@@ -60,7 +63,7 @@ fn read_nth(bytes: &[u8]) -> Result<(Place, &[u8]), Fault>
     ))
 }
 
-fn read_place(bytes: &[u8]) -> Result<(Place, &[u8]), Fault>
+fn read_place(bytes: &[u8]) -> Reading<'_, Place>
     ensures { read_as the_place result ≡ read_place bytes.now }
 {
     let (tag, rest) = read_byte(bytes)?;
@@ -78,7 +81,7 @@ fn read_place(bytes: &[u8]) -> Result<(Place, &[u8]), Fault>
     }
 }
 
-fn read_cut(bytes: &[u8]) -> Result<(Cut, &[u8]), Fault>
+fn read_cut(bytes: &[u8]) -> Reading<'_, Cut>
     ensures { read_as (λ c. cut (the_place c.from) (the_place c.to)) result ≡ read_cut bytes.now }
 {
     let (from, rest) = read_place(bytes)?;
@@ -87,19 +90,14 @@ fn read_cut(bytes: &[u8]) -> Result<(Cut, &[u8]), Fault>
 }
 
 // A literal, as a slice of the spelling.
-fn read_literal(bytes: &[u8]) -> Result<(&[u8], &[u8]), Fault>
+fn read_literal(bytes: &[u8]) -> Reading<'_, &[u8]>
     ensures { read_as (λ s. literal s.now) result ≡ read_literal bytes.now }
 {
     let (n, rest) = read_byte(bytes)?;
-    let n = n as usize;
-    if n <= rest.len() {
-        Ok((&rest[0..n], &rest[n..]))
-    } else {
-        Err(Fault::EndsEarly)
-    }
+    rest.split_at_checked(n as usize).ok_or(Fault::EndsEarly)
 }
 
-fn read_part(heap: Global, bytes: &[u8]) -> Result<(Part, &[u8]), Fault>
+fn read_part(heap: Global, bytes: &[u8]) -> Reading<'_, Part>
     ensures { ReadSo the_part result (read_part bytes.now) }
 {
     let (tag, rest) = read_byte(bytes)?;
@@ -116,7 +114,7 @@ fn read_part(heap: Global, bytes: &[u8]) -> Result<(Part, &[u8]), Fault>
     }
 }
 
-fn read_parts<'a>(heap: Global, count: u8, bytes: &'a [u8]) -> Result<(Vec<Part>, &'a [u8]), Fault>
+fn read_parts(heap: Global, count: u8, bytes: &[u8]) -> Reading<'_, Vec<Part>>
     ensures { ReadSo (λ v. the_parts v.items) result (read_parts count bytes.now) }
 {
     let mut parts = Vec::new(heap);
@@ -130,7 +128,7 @@ fn read_parts<'a>(heap: Global, count: u8, bytes: &'a [u8]) -> Result<(Vec<Part>
 }
 
 // The number of the parts, and the parts.
-fn read_counted(heap: Global, bytes: &[u8]) -> Result<(Vec<Part>, &[u8]), Fault>
+fn read_counted(heap: Global, bytes: &[u8]) -> Reading<'_, Vec<Part>>
     ensures { ReadSo (λ v. the_parts v.items) result (read_counted bytes.now) }
 {
     let (count, rest) = read_byte(bytes)?;
