@@ -28,7 +28,7 @@ fn read_byte(bytes: &[u8]) -> Reading<'_, u8>
 fn read_kind(high: u8, low: u8) -> Result<Kind, Fault>
     ensures { MatchResult result (λ k. (kind_number k ≡ number high low) × (a_kind (number high low) ≡ true)) (λ f. (f ≡ KindNumber (number high low)) × (a_kind (number high low) ≡ false)) }
 {
-    let number = 256 * high as u16 + low as u16;
+    let number = u16::from_be_bytes([high, low]);
     Kind::try_from(u64::from(number)).map_err(|_| Fault::KindNumber(number))
 }
 

@@ -71,21 +71,9 @@ fn put_place(out: &mut [u8], at: usize, place: Place) -> usize
             n,
             back,
         } => {
-            let l = u16::from(left);
-            let r = u16::from(right);
-            put(
-                out,
-                at,
-                &[
-                    2,
-                    (l / 256) as u8,
-                    (l % 256) as u8,
-                    (r / 256) as u8,
-                    (r % 256) as u8,
-                    n,
-                    back as u8,
-                ],
-            );
+            let [a, b] = u16::from(left).to_be_bytes();
+            let [c, d] = u16::from(right).to_be_bytes();
+            put(out, at, &[2, a, b, c, d, n, back as u8]);
             at + 7
         }
     }
