@@ -4,13 +4,13 @@ use Rattle.std.proofs.lemmas.List.{take-append-drop, take_all}
 use Rattle.std.proofs.lemmas.Bool.{le-leb, lt-leb, leb-true, leb-false}
 use Rattle.rules.specs.Answers.{written, written_left, counted, made_told, made_left, FitsIn}
 use Rattle.rules.specs.Lists.{pick}
-use Rattle.rules.specs.Promises.{made_length}
 use Rattle.rules.specs.Rules.{Made, nothing, made, with_made, makes, part_of}
 use Rattle.rules.specs.Values.{the_part, the_parts}
 use Rattle.rules.specs.declared.part.Part as declared
 use Rattle.rules.proofs.EachElement.{each_append, each_left, each_past}
 use Rattle.rules.proofs.WhatIsMade.{makes_append, with_made_right}
-use Rattle.rules.proofs.WrittenBytes.{written_append, length_written}
+use Rattle.rules.proofs.WrittenBytes.{wrote_none, room_next, wrote_next}
+use Rattle.rules.specs.Writing.{Writing, wrote, HasRoom}
 
 -- what is made by the first parts, i of them, and by the others
 module _ (ps : List declared.Part) (t : List ℕ) where
@@ -67,39 +67,28 @@ front_fits nothing n room h = h
 front_fits (made a) nothing room h = absurd h
 front_fits (made a) (made b) room h = let k = length-append a b in omega arith
 
--- what is written so far, and up to where
-pub record Written (m : Made) (out₀ out : List ℕ) (at : ℕ) : Type 0 where
-  pub so_long : at ≡ made_length m
-  pub so : out ≡ made_left m out₀
-
-fits_is : (bs out : List ℕ) → length bs ≤ length out → written_left bs out ≡ written out 0 bs
-fits_is bs out h = ap (λ x. pick x (written out 0 bs) out) (le-leb (length bs) (length out) h)
+-- bytes were made, and these are written from the beginning on
+abbrev pub Written : Made → List ℕ → Writing → Type 0
+Written nothing out w = ⊥
+Written (made bs) out w = w ≡ wrote (record { out = out; at = 0 }) bs
 
 -- nothing is written of no parts
-pub none_written : (out : List ℕ) → Written (made []) out out 0
-unfolding made_length
-none_written out = record { so_long = refl; so = sym (fits_is [] out (omega arith)) }
+pub none_written : (out : List ℕ) → Written (made []) out (record { out = out; at = 0 })
+none_written out = wrote_none (record { out = out; at = 0 })
 
-pub piece_fits : (m : Made) (out₀ out : List ℕ) (at : ℕ) → Written m out₀ out at → (b : List ℕ) → FitsIn (with_made m (made b)) (length out₀) → at + length b ≤ length out
-unfolding with_made made_length
-piece_fits nothing out₀ out at w b h = absurd h
-piece_fits (made a) out₀ out at w b h =
-    let n = length-append a b in
-    let l = w.so_long in
-    let k = ap length (w.so ∙ fits_is a out₀ (omega arith)) ∙ length_written out₀ 0 a (omega arith) in
-    omega arith
+piece_fits : (m : Made) (out : List ℕ) (w : Writing) → Written m out w → (b : List ℕ) → FitsIn (with_made m (made b)) (length out) → HasRoom w b
+unfolding with_made
+piece_fits nothing out w e b h = absurd h
+piece_fits (made a) out w e b h = room_next (record { out = out; at = 0 }) w a b (omega arith) e
 
-pub piece_written : (m : Made) (out₀ out : List ℕ) (at : ℕ) → Written m out₀ out at → (b : List ℕ) → FitsIn (with_made m (made b)) (length out₀) → Written (with_made m (made b)) out₀ (written out at b) (at + length b)
-unfolding with_made made_length
-piece_written nothing out₀ out at w b h = absurd h
-piece_written (made a) out₀ out at w b h =
-    let n = length-append a b in
-    let l = w.so_long in
-    let so_written = w.so ∙ fits_is a out₀ (omega arith) in
-    record {
-      so_long = omega arith;
-      so = ap₂ (λ o i. written o i b) so_written (let e : at ≡ 0 + length a = omega arith in e) ∙ written_append out₀ 0 a b (omega arith) ∙ sym (fits_is (a ++ b) out₀ h);
-    }
+piece_written : (m : Made) (out : List ℕ) (w v : Writing) → Written m out w → (b : List ℕ) → FitsIn (with_made m (made b)) (length out) → v ≡ wrote w b → Written (with_made m (made b)) out v
+unfolding with_made
+piece_written nothing out w v e b h f = absurd h
+piece_written (made a) out w v e b h f = wrote_next (record { out = out; at = 0 }) w v a b (omega arith) e f
+
+left_behind : (m : Made) (out : List ℕ) (w : Writing) → Written m out w → FitsIn m (length out) → w.out ≡ made_left m out
+left_behind nothing out w e h = absurd h
+left_behind (made a) out w e h = ap (λ (x : Writing). x.out) e ∙ sym (ap (λ x. pick x (written out 0 a) out) (le-leb (length a) (length out) h))
 
 -- where everything fits, no part makes nothing
 pub no_part_is_nothing : (m n : Made) (room : ℕ) → nothing ≡ n → FitsIn (with_made m n) room → ⊥
@@ -115,8 +104,8 @@ module _ (ps : List declared.Part) (t : List ℕ) where
   pub measured_all : (i n : ℕ) → Measured (so_far ps t i) n → length ps ≤ i → Some n ≡ counted (makes (the_parts ps) t)
   measured_all i n m h = measured_told (makes (the_parts ps) t) n (subst (λ x. Measured x n) (all_so_far ps t i h) m)
 
-  pub written_all : (i : ℕ) (out₀ out : List ℕ) (at : ℕ) → Written (so_far ps t i) out₀ out at → length ps ≤ i → out ≡ made_left (makes (the_parts ps) t) out₀
-  written_all i out₀ out at w h = w.so ∙ ap (λ m. made_left m out₀) (all_so_far ps t i h)
+  pub written_all : (i : ℕ) (out : List ℕ) (w : Writing) → Written (so_far ps t i) out w → length ps ≤ i → FitsIn (makes (the_parts ps) t) (length out) → w.out ≡ made_left (makes (the_parts ps) t) out
+  written_all i out w e h fits = left_behind (makes (the_parts ps) t) out w (subst (λ m. Written m out w) (all_so_far ps t i h) e) fits
 
   module _ (i : ℕ) (p : declared.Part) (h : i < length ps) (e₁ : p ≡ get_or ps i p) where
     pub measured_nothing : nothing ≡ part_of t (the_part p) → None ≡ counted (makes (the_parts ps) t)
@@ -126,23 +115,22 @@ module _ (ps : List declared.Part) (t : List ℕ) where
     measured_part n more b m is e =
         subst₂ Measured (sym (one_part_more ps t i p h e₁ ∙ ap (with_made (so_far ps t i)) (sym is))) (sym e) (measured_more (so_far ps t i) n b m)
 
-    module _ (out₀ out : List ℕ) (at : ℕ) (w : Written (so_far ps t i) out₀ out at) (all : FitsIn (makes (the_parts ps) t) (length out₀)) where
-      next_fits : FitsIn (with_made (so_far ps t i) (part_of t (the_part p))) (length out₀)
+    module _ (out : List ℕ) (w : Writing) (so : Written (so_far ps t i) out w) (all : FitsIn (makes (the_parts ps) t) (length out)) where
+      next_fits : FitsIn (with_made (so_far ps t i) (part_of t (the_part p))) (length out)
       next_fits =
-          subst (λ m. FitsIn m (length out₀)) (one_part_more ps t i p h e₁)
-          (front_fits (so_far ps t (i + 1)) (to_come ps t (i + 1)) (length out₀) (subst (λ m. FitsIn m (length out₀)) (in_two ps t (i + 1)) all))
+          subst (λ m. FitsIn m (length out)) (one_part_more ps t i p h e₁)
+          (front_fits (so_far ps t (i + 1)) (to_come ps t (i + 1)) (length out) (subst (λ m. FitsIn m (length out)) (in_two ps t (i + 1)) all))
 
-      fits_with : (b : List ℕ) → made b ≡ part_of t (the_part p) → FitsIn (with_made (so_far ps t i) (made b)) (length out₀)
-      fits_with b n = subst (λ m. FitsIn (with_made (so_far ps t i) m) (length out₀)) (sym n) next_fits
+      fits_with : (b : List ℕ) → made b ≡ part_of t (the_part p) → FitsIn (with_made (so_far ps t i) (made b)) (length out)
+      fits_with b n = subst (λ m. FitsIn (with_made (so_far ps t i) m) (length out)) (sym n) next_fits
 
-      pub next_piece_fits : (b : List ℕ) → made b ≡ part_of t (the_part p) → at + length b ≤ length out
-      next_piece_fits b n = piece_fits (so_far ps t i) out₀ out at w b (fits_with b n)
+      pub next_piece_fits : (b : List ℕ) → made b ≡ part_of t (the_part p) → HasRoom w b
+      next_piece_fits b n = piece_fits (so_far ps t i) out w so b (fits_with b n)
 
-      pub written_more : (b more : List ℕ) (then : ℕ) → made b ≡ part_of t (the_part p) → more ≡ written out at b → then ≡ at + length b → Written (so_far ps t (i + 1)) out₀ more then
-      written_more b more then n is is_at =
-          let one = piece_written (so_far ps t i) out₀ out at w b (fits_with b n) in
-          subst (λ m. Written m out₀ more then) (sym (one_part_more ps t i p h e₁ ∙ ap (with_made (so_far ps t i)) (sym n)))
-          (record { so_long = is_at ∙ one.so_long; so = is ∙ one.so })
+      pub written_more : (b : List ℕ) (v : Writing) → made b ≡ part_of t (the_part p) → v ≡ wrote w b → Written (so_far ps t (i + 1)) out v
+      written_more b v n is =
+          subst (λ m. Written m out v) (sym (one_part_more ps t i p h e₁ ∙ ap (with_made (so_far ps t i)) (sym n)))
+          (piece_written (so_far ps t i) out w v so b (fits_with b n) is)
 
       pub written_never : nothing ≡ part_of t (the_part p) → ⊥
-      written_never n = no_part_is_nothing (so_far ps t i) (part_of t (the_part p)) (length out₀) n next_fits
+      written_never n = no_part_is_nothing (so_far ps t i) (part_of t (the_part p)) (length out) n next_fits

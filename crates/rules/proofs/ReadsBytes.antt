@@ -58,9 +58,3 @@ module _ (bs : List ℕ) (h : 6 ≤ length bs) where
           ap (λ k. Ok (nth_of k kr (get_or bs 4 0) back, rest)) is_left.0 ∙ ap (λ k. Ok (nth_of (number (get_or bs 0 0) (get_or bs 1 0)) k (get_or bs 4 0) back, rest)) is_right.0
           ∙ ap₂ (λ b l. Ok (nth_of (number (get_or bs 0 0) (get_or bs 1 0)) (number (get_or bs 2 0) (get_or bs 3 0)) (get_or bs 4 0) b, l)) told.0 e
           ∙ sym (long_enough ∙ all_there (number (get_or bs 0 0) (get_or bs 1 0)) (number (get_or bs 2 0) (get_or bs 3 0)) (get_or bs 4 0) (get_or bs 5 0) (drop 6 bs) is_left.1 is_right.1 told.1)
-
-pub literal_there : (bs rest : List ℕ) (n : ℕ) → Ok (n, rest) ≡ read_byte bs → n ≤ length rest → Ok (bytes (take (n - 0) rest), take (length rest - n) (drop n rest)) ≡ read_literal bs
-literal_there bs rest n e h =
-    ap₂ (λ k l. Ok (bytes (take k rest), l)) (let k : n - 0 ≡ n = omega arith in k) (take_rest rest n)
-    ∙ ap (λ x. pick x (Ok (bytes (take n rest), drop n rest)) (Err EndsEarly)) (sym (le-leb n (length rest) h))
-    ∙ ap (λ x. and_then x (λ k l. pick (leb k (length l)) (Ok (bytes (take k l), drop k l)) (Err EndsEarly))) e

@@ -1,5 +1,5 @@
 -- Going through the parts of a rule spells it.
-use Rattle.std.proofs.Common.{◌≡◌, ℕ, ◌+◌, ◌*◌, ◌<◌, ◌≤◌, true, leb, List, [], ◌∷◌, ◌++◌, length, get_or, take, drop, Ok, Err, IsOk, sym, refl, ap, ◌∙◌, append_assoc, append-nil, arith, length-append}
+use Rattle.std.proofs.Common.{◌≡◌, ℕ, ◌+◌, ◌*◌, ◌<◌, ◌≤◌, true, leb, List, [], ◌∷◌, ◌++◌, length, get_or, take, drop, Ok, Err, IsOk, sym, refl, ap, ◌∙◌, ap₂, append_assoc, append-nil, arith, length-append}
 use Rattle.std.proofs.lemmas.List.{take-append-drop, take_all}
 use Rattle.std.proofs.lemmas.Bool.{le-leb, leb-true, and_parts}
 use Rattle.rules.specs.Answers.{written, written_told, written_left}
@@ -11,7 +11,8 @@ use Rattle.rules.specs.Values.{the_part, the_parts}
 use Rattle.rules.specs.declared.part.Part as declared
 use Rattle.rules.proofs.EachElement.{each_append, each_past, each_length}
 use Rattle.rules.proofs.SumOverParts.{literal_short}
-use Rattle.rules.proofs.WrittenBytes.{written_none, written_next, length_written}
+use Rattle.rules.proofs.WrittenBytes.{wrote_none, room_next, wrote_next}
+use Rattle.rules.specs.Writing.{Writing, wrote, HasRoom}
 
 flat_append : (r q : Rule) → flat part_spelled (r ++ q) ≡ flat part_spelled r ++ flat part_spelled q
 flat_append [] q = refl
@@ -30,65 +31,27 @@ module _ (ps : List declared.Part) where
       ap (flat part_spelled) (each_past the_part ps i p h e) ∙ flat_append (the_parts (take i ps)) (the_part p ∷ [])
       ∙ ap (λ l. spelling i ++ l) (append-nil (part_spelled (the_part p)))
 
-  -- the spelling of some parts is no longer than that of all
-  spelling_short : (i : ℕ) → length (spelling i) ≤ length (flat part_spelled (the_parts ps))
-  spelling_short i =
-      let split = ap (λ l. length (flat part_spelled (the_parts l))) (sym (take-append-drop i ps)) in
-      let parts = ap (λ r. length (flat part_spelled r)) (each_append the_part (take i ps) (drop i ps)) in
-      let both = ap length (flat_append (the_parts (take i ps)) (the_parts (drop i ps))) in
-      let sum = length-append (spelling i) (flat part_spelled (the_parts (drop i ps))) in
-      omega arith
+  -- the first parts, i of them, are spelled behind w
+  module _ (w : Writing) (room : HasRoom w (flat part_spelled (the_parts ps))) where
+    pub none_spelled : w ≡ wrote w (spelling 0)
+    none_spelled = wrote_none w
 
-  module _ (before : List ℕ) (from : ℕ) where
-    -- the first parts are spelled, up to `at`
-    pub record Spelled (i : ℕ) (after : List ℕ) (at : ℕ) : Type 0 where
-      pub so_far : after ≡ written before from (spelling i)
-      pub up_to : at ≡ from + length (spelling i)
+    module _ (i : ℕ) (p : declared.Part) (h : i < length ps) (e : p ≡ get_or ps i p) where
+      -- so there is room for those and one more
+      more_room : HasRoom w (spelling i ++ part_spelled (the_part p))
+      more_room =
+          let split = ap (λ l. length (flat part_spelled (the_parts l))) (sym (take-append-drop (i + 1) ps)) in
+          let parts = ap (λ r. length (flat part_spelled r)) (each_append the_part (take (i + 1) ps) (drop (i + 1) ps)) in
+          let both = ap length (flat_append (the_parts (take (i + 1) ps)) (the_parts (drop (i + 1) ps))) in
+          let sum = length-append (spelling (i + 1)) (flat part_spelled (the_parts (drop (i + 1) ps))) in
+          let more = ap length (one_more i p h e) in
+          omega arith
 
-    pub none_spelled : Spelled 0 before from
-    none_spelled = record { so_far = sym (written_none before from); up_to = omega arith }
+      pub part_has_room : (v : Writing) → v ≡ wrote w (spelling i) → HasRoom v (part_spelled (the_part p))
+      part_has_room v s = room_next w v (spelling i) (part_spelled (the_part p)) more_room s
 
-    module _ (i : ℕ) (after : List ℕ) (at : ℕ) (s : Spelled i after at) (room : from + length (flat part_spelled (the_parts ps)) ≤ length before) where
-      pub spelled_all : length ps ≤ i → (after ≡ written before from (flat part_spelled (the_parts ps))) × (at ≡ from + length (flat part_spelled (the_parts ps)))
-      spelled_all h = (s.so_far ∙ ap (written before from) (all_spelled i h), s.up_to ∙ ap (λ l. from + length l) (all_spelled i h))
-
-      module _ (p : declared.Part) (h : i < length ps) (e : p ≡ get_or ps i p) where
-        pub part_has_room : at + length (part_spelled (the_part p)) ≤ length after
-        part_has_room =
-            let more = ap length (one_more i p h e) ∙ length-append (spelling i) (part_spelled (the_part p)) in
-            let short = spelling_short (i + 1) in
-            let now_IsShort = spelling_short i in
-            let same = ap length s.so_far ∙ length_written before from (spelling i) (omega arith) in
-            let up = s.up_to in
-            omega arith
-
-        pub part_spelled_too : (then : List ℕ) (next : ℕ) → then ≡ written after at (part_spelled (the_part p)) → next ≡ at + length (part_spelled (the_part p)) → Spelled (i + 1) then next
-        part_spelled_too then next t n =
-            let is = one_more i p h e in
-            let more = ap length is ∙ length-append (spelling i) (part_spelled (the_part p)) in
-            let short = spelling_short i in
-            let up = s.up_to in
-            record {
-              so_far = written_next before from at (spelling i) (part_spelled (the_part p)) after then (omega arith) s.so_far s.up_to t ∙ ap (written before from) (sym is);
-              up_to = omega arith;
-            }
-
--- what is told, and left, where there is room
-pub told_with_room : (bs out : List ℕ) → length bs ≤ length out → (written_told bs (length out) ≡ Ok (length bs)) × (written_left bs out ≡ written out 0 bs)
-told_with_room bs out h = let fits = le-leb (length bs) (length out) h in (ap (λ x. pick x (Ok (length bs)) (Err (record {}))) fits, ap (λ x. pick x (written out 0 bs) out) fits)
-
--- the number of parts, and then the parts, are the spelling of the rule
-pub rule_spelled_told :
-    (ps : List declared.Part) (out after then : List ℕ) (end : ℕ) → 1 + length (flat part_spelled (the_parts ps)) ≤ length out → after ≡ written out 0 (length ps ∷ []) →
-    then ≡ written after 1 (flat part_spelled (the_parts ps)) → end ≡ 1 + length (flat part_spelled (the_parts ps)) →
-    (Ok end ≡ written_told (rule_spelled (the_parts ps)) (length out)) × (then ≡ written_left (rule_spelled (the_parts ps)) out)
-rule_spelled_told ps out after then end h e₁ e₂ n =
-    let count = each_length the_part ps in
-    let told = told_with_room (rule_spelled (the_parts ps)) out (omega arith) in
-    let both = written_next out 0 1 (length ps ∷ []) (flat part_spelled (the_parts ps)) after then (omega arith) e₁ refl e₂ in (
-      ap (λ k. Ok k) (let k : end ≡ length (rule_spelled (the_parts ps)) = omega arith in k) ∙ sym told.0,
-      both ∙ ap (λ k. written out 0 (k ∷ flat part_spelled (the_parts ps))) (sym count) ∙ sym told.1,
-    )
+      pub part_spelled_too : (v u : Writing) → v ≡ wrote w (spelling i) → u ≡ wrote v (part_spelled (the_part p)) → u ≡ wrote w (spelling (i + 1))
+      part_spelled_too v u s t = wrote_next w v u (spelling i) (part_spelled (the_part p)) more_room s t ∙ ap (wrote w) (sym (one_more i p h e))
 
 -- HOW LONG A SPELLING IS
 place_bound : (p : Place) → length (place_spelled p) ≤ 7

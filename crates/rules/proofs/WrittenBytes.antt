@@ -3,6 +3,7 @@ use Rattle.std.proofs.Common.{◌≡◌, ℕ, ◌+◌, ◌-◌, ◌≤◌, List,
 use borrow.Rule.Slice.PartMut.{put_mid}
 use Rattle.std.proofs.lemmas.List.{take-append-drop, drop-drop, length-take-le, take_at, drop_at}
 use Rattle.rules.specs.Answers.{written}
+use Rattle.rules.specs.Writing.{Writing, wrote, HasRoom}
 
 -- a copy into a part of what is lent writes there
 pub copied_is : (out ys bs : List ℕ) (at : ℕ) → ys ≡ bs → put_mid at (at + length bs - at) out ys ≡ written out at bs
@@ -37,3 +38,23 @@ written_none out at = ap (λ n. take at out ++ drop n out) (add-zero at) ∙ tak
 -- a second piece right behind the first
 pub written_next : (out : List ℕ) (at next : ℕ) (xs ys after then : List ℕ) → at + length xs ≤ length out → after ≡ written out at xs → next ≡ at + length xs → then ≡ written after next ys → then ≡ written out at (xs ++ ys)
 written_next out at next xs ys after then h e n e₂ = e₂ ∙ ap₂ (λ o i. written o i ys) e n ∙ written_append out at xs ys h
+
+-- THE SAME of bytes and up to where they are written
+pub room_first : (w : Writing) (xs ys : List ℕ) → HasRoom w (xs ++ ys) → HasRoom w xs
+room_first w xs ys h = let n = length-append xs ys in omega arith
+
+pub room_next : (w v : Writing) (xs ys : List ℕ) → HasRoom w (xs ++ ys) → v ≡ wrote w xs → HasRoom v ys
+room_next w v xs ys h e =
+    let n = length-append xs ys in
+    let long = ap (λ x. length x.out) e ∙ length_written w.out w.at xs (omega arith) in
+    let up = ap (λ (x : Writing). x.at) e in
+    omega arith
+
+pub wrote_next : (w v u : Writing) (xs ys : List ℕ) → HasRoom w (xs ++ ys) → v ≡ wrote w xs → u ≡ wrote v ys → u ≡ wrote w (xs ++ ys)
+wrote_next w v u xs ys h e f =
+    let n = length-append xs ys in
+    let up : w.at + length xs + length ys ≡ w.at + length (xs ++ ys) = omega arith in
+    f ∙ ap (λ x. wrote x ys) e ∙ ap₂ (λ o a. record { out = o; at = a }) (written_append w.out w.at xs ys (omega arith)) up
+
+pub wrote_none : (w : Writing) → w ≡ wrote w []
+wrote_none w = ap₂ (λ o a. record { out = o; at = a }) (sym (written_none w.out w.at)) (let z : w.at ≡ w.at + 0 = omega arith in z)

@@ -9,6 +9,7 @@ pub mod Values
 pub mod Held
 pub mod Faults
 pub mod Answers
+pub mod Writing
 pub mod Entry
 pub mod Reading
 pub mod Refusals

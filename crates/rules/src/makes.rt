@@ -6,7 +6,7 @@ ghost use Rattle.rules.specs.Values.{the_parts};
 ghost use Rattle.rules.specs.Held.{the_rule};
 
 use crate::part::Part;
-use crate::room::{NoRoom, put};
+use crate::room::{NoRoom, Writer};
 use crate::rule::Rule;
 
 // How many bytes the parts make of a text, or the largest `usize` where they are more; `None` where a part makes nothing.
@@ -25,11 +25,10 @@ fn write_parts(parts: &[Part], text: &[u8], out: &mut [u8])
     requires { FitsIn (makes (the_parts parts.now) text.now) (length out.old) }
     ensures { out.new ≡ made_left (makes (the_parts parts.now) text.now) out.old }
 {
-    let mut at = 0;
+    let mut writer = Writer { out, at: 0 };
     for part in parts {
         if let Some(piece) = part.makes(text) {
-            put(out, at, piece);
-            at += piece.len();
+            writer.put(piece);
         }
     }
 }

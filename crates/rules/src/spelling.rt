@@ -1,15 +1,16 @@
 // How a rule is spelled in bytes.
 ghost use Rattle.std.specs.Prelude.{◌≡◌, ◌+◌, ◌≤◌, true, length};
-ghost use Rattle.rules.specs.Answers.{written, written_told, written_left};
+ghost use Rattle.rules.specs.Answers.{written_told, written_left};
 ghost use Rattle.rules.specs.Lists.{flat};
 ghost use Rattle.rules.specs.Order.{place_spelled, part_spelled, rule_spelled};
 ghost use Rattle.rules.specs.Rules.{bytes, cut, a_part, a_rule};
 ghost use Rattle.rules.specs.Values.{the_place, the_part, the_parts};
 ghost use Rattle.rules.specs.Held.{the_rule};
+ghost use Rattle.rules.specs.Writing.{the_writing, wrote, HasRoom};
 
 use crate::part::{Cut, Part};
 use crate::place::Place;
-use crate::room::{NoRoom, put};
+use crate::room::{NoRoom, Writer};
 use crate::rule::Rule;
 
 // How many bytes a place is spelled with.
@@ -49,84 +50,76 @@ fn parts_length(parts: &[Part]) -> usize
     total
 }
 
-// Spells a place from `at` on, and says where its spelling ends.
-#[tactic(auto, unfolding(crate::specs::Order::place_spelled))]
-fn put_place(out: &mut [u8], at: usize, place: Place) -> usize
-    requires { at + length (place_spelled (the_place place)) ≤ length out.old }
-    ensures value { result ≡ at + length (place_spelled (the_place place)) }
-    ensures after { out.new ≡ written out.old at (place_spelled (the_place place)) }
-{
-    match place {
-        Place::FromFirst(n) => {
-            put(out, at, &[0, n]);
-            at + 2
-        }
-        Place::FromLast(n) => {
-            put(out, at, &[1, n]);
-            at + 2
-        }
-        Place::NthOf {
-            left,
-            right,
-            n,
-            back,
-        } => {
-            let [a, b] = u16::from(left).to_be_bytes();
-            let [c, d] = u16::from(right).to_be_bytes();
-            put(out, at, &[2, a, b, c, d, n, back as u8]);
-            at + 7
+impl<'a> Writer<'a> {
+    // Spells a place.
+    #[tactic(auto, unfolding(crate::specs::Order::place_spelled))]
+    fn put_place(&mut self, place: Place)
+        requires { HasRoom (the_writing self.old) (place_spelled (the_place place)) }
+        ensures same_reference { self.new.out.ghost_name ≡ self.old.out.ghost_name }
+        ensures wrote { the_writing self.new ≡ wrote (the_writing self.old) (place_spelled (the_place place)) }
+    {
+        match place {
+            Place::FromFirst(n) => self.put(&[0, n]),
+            Place::FromLast(n) => self.put(&[1, n]),
+            Place::NthOf {
+                left,
+                right,
+                n,
+                back,
+            } => {
+                let [a, b] = u16::from(left).to_be_bytes();
+                let [c, d] = u16::from(right).to_be_bytes();
+                self.put(&[2, a, b, c, d, n, back as u8]);
+            }
         }
     }
-}
 
-// Spells a literal from `at` on, and says where its spelling ends.
-fn put_literal(out: &mut [u8], at: usize, literal: &[u8]) -> usize
-    requires few { length literal.now ≤ 64 }
-    requires room { at + length (part_spelled (bytes literal.now)) ≤ length out.old }
-    ensures value { result ≡ at + length (part_spelled (bytes literal.now)) }
-    ensures after { out.new ≡ written out.old at (part_spelled (bytes literal.now)) }
-{
-    put(out, at, &[0, literal.len() as u8]);
-    put(out, at + 2, literal);
-    at + 2 + literal.len()
-}
-
-// Spells a cut from `at` on, and says where its spelling ends.
-fn put_cut(out: &mut [u8], at: usize, pair: Cut) -> usize
-    requires { at + length (part_spelled (cut (the_place pair.from) (the_place pair.to))) ≤ length out.old }
-    ensures value { result ≡ at + length (part_spelled (cut (the_place pair.from) (the_place pair.to))) }
-    ensures after { out.new ≡ written out.old at (part_spelled (cut (the_place pair.from) (the_place pair.to))) }
-{
-    put(out, at, &[1]);
-    let middle = put_place(out, at + 1, pair.from);
-    put_place(out, middle, pair.to)
-}
-
-// Spells a part from `at` on, and says where its spelling ends.
-fn put_part(out: &mut [u8], at: usize, part: &Part) -> usize
-    requires part { a_part (the_part part.now) ≡ true }
-    requires room { at + length (part_spelled (the_part part.now)) ≤ length out.old }
-    ensures value { result ≡ at + length (part_spelled (the_part part.now)) }
-    ensures after { out.new ≡ written out.old at (part_spelled (the_part part.now)) }
-{
-    match part {
-        Part::Bytes(literal) => put_literal(out, at, literal.as_slice()),
-        Part::Cut(pair) => put_cut(out, at, *pair),
+    // Spells a literal.
+    fn put_literal(&mut self, literal: &[u8])
+        requires few { length literal.now ≤ 64 }
+        requires room { HasRoom (the_writing self.old) (part_spelled (bytes literal.now)) }
+        ensures same_reference { self.new.out.ghost_name ≡ self.old.out.ghost_name }
+        ensures wrote { the_writing self.new ≡ wrote (the_writing self.old) (part_spelled (bytes literal.now)) }
+    {
+        self.put(&[0, literal.len() as u8]);
+        self.put(literal);
     }
-}
 
-// Spells the parts of a rule from `at` on, and says where their spelling ends.
-fn put_parts(out: &mut [u8], from: usize, parts: &[Part]) -> usize
-    requires rule { a_rule (the_parts parts.now) ≡ true }
-    requires room { from + length (flat part_spelled (the_parts parts.now)) ≤ length out.old }
-    ensures value { result ≡ from + length (flat part_spelled (the_parts parts.now)) }
-    ensures after { out.new ≡ written out.old from (flat part_spelled (the_parts parts.now)) }
-{
-    let mut at = from;
-    for part in parts {
-        at = put_part(out, at, part);
+    // Spells a cut.
+    fn put_cut(&mut self, pair: Cut)
+        requires { HasRoom (the_writing self.old) (part_spelled (cut (the_place pair.from) (the_place pair.to))) }
+        ensures same_reference { self.new.out.ghost_name ≡ self.old.out.ghost_name }
+        ensures wrote { the_writing self.new ≡ wrote (the_writing self.old) (part_spelled (cut (the_place pair.from) (the_place pair.to))) }
+    {
+        self.put(&[1]);
+        self.put_place(pair.from);
+        self.put_place(pair.to);
     }
-    at
+
+    // Spells a part.
+    fn put_part(&mut self, part: &Part)
+        requires part { a_part (the_part part.now) ≡ true }
+        requires room { HasRoom (the_writing self.old) (part_spelled (the_part part.now)) }
+        ensures same_reference { self.new.out.ghost_name ≡ self.old.out.ghost_name }
+        ensures wrote { the_writing self.new ≡ wrote (the_writing self.old) (part_spelled (the_part part.now)) }
+    {
+        match part {
+            Part::Bytes(literal) => self.put_literal(literal),
+            Part::Cut(pair) => self.put_cut(*pair),
+        }
+    }
+
+    // Spells the parts of a rule.
+    fn put_parts(&mut self, parts: &[Part])
+        requires rule { a_rule (the_parts parts.now) ≡ true }
+        requires room { HasRoom (the_writing self.old) (flat part_spelled (the_parts parts.now)) }
+        ensures same_reference { self.new.out.ghost_name ≡ self.old.out.ghost_name }
+        ensures wrote { the_writing self.new ≡ wrote (the_writing self.old) (flat part_spelled (the_parts parts.now)) }
+    {
+        for part in parts {
+            self.put_part(part);
+        }
+    }
 }
 
 // Spells the parts of a rule, with their number in front.
@@ -138,8 +131,10 @@ fn spell_parts(parts: &[Part], out: &mut [u8]) -> Result<usize, NoRoom>
     if out.len() < 1 + parts_length(parts) {
         return Err(NoRoom);
     }
-    put(out, 0, &[parts.len() as u8]);
-    Ok(put_parts(out, 1, parts))
+    let mut writer = Writer { out, at: 0 };
+    writer.put(&[parts.len() as u8]);
+    writer.put_parts(parts);
+    Ok(writer.at)
 }
 
 impl Rule {

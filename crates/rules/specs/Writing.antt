@@ -1,0 +1,20 @@
+-- Lent bytes that are written piece by piece. Assumes nothing: these are definitions.
+use Rattle.std.specs.Prelude.{ℕ, ◌+◌, ◌≤◌, List, length}
+use Rattle.rules.specs.Answers.{written}
+use Rattle.rules.specs.declared.room.Writer.{Writer}
+
+-- the bytes, and up to where they are written
+pub record Writing : Type 0 where
+  pub out : List ℕ
+  pub at : ℕ
+
+abbrev pub the_writing : Writer → Writing
+the_writing w = record { out = w.out.now; at = w.at }
+
+-- the same with bs behind what is written
+abbrev pub wrote : Writing → List ℕ → Writing
+wrote w bs = record { out = written w.out w.at bs; at = w.at + length bs }
+
+-- and there is room for them
+abbrev pub HasRoom : Writing → List ℕ → Type 0
+HasRoom w bs = w.at + length bs ≤ length w.out
