@@ -15,10 +15,6 @@ pub bytes_right : (b : List ℕ) → ((k : ℕ) → Fits w8 (get_or b k 0)) → 
 bytes_right [] h = refl
 bytes_right (x ∷ b) h = and_from _ _ (lt-ltb x 256 (h 0).fits) (bytes_right b (λ k. h (suc k)))
 
-pub no_bytes_right : (b : List ℕ) → length b ≤ 0 → every (λ c. ltb c 256) b ≡ true
-no_bytes_right [] h = refl
-no_bytes_right (x ∷ b) h = absurd (omega arith)
-
 pub literal_right : (b : List ℕ) → every (λ c. ltb c 256) b ≡ true → 0 < length b → length b ≤ 64 → a_part (bytes b) ≡ true
 unfolding a_part
 literal_right b all some few = grind arith

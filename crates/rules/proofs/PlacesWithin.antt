@@ -1,8 +1,8 @@
 -- Places lie within the text.
-use Rattle.std.proofs.Common.{◌≡◌, ℕ, zero, suc, ◌-◌, ◌≤◌, Bool, true, ◌&&◌, eqb, leb, List, [], ◌∷◌, length, take, drop, refl, arith}
+use Rattle.std.proofs.Common.{◌≡◌, ℕ, zero, suc, ◌-◌, ◌≤◌, Bool, true, ◌&&◌, eqb, leb, List, [], ◌∷◌, length, take, drop, refl, ap, ◌∙◌, arith}
 use Rattle.std.proofs.lemmas.Bool.Decides.{nat_tests}
 use Rattle.rules.specs.Lists.{pick, every, up_to, backwards}
-use Rattle.rules.specs.Places.{from_first, from_last, nth_of, spot, all_of, nth, before_is, behind_is}
+use Rattle.rules.specs.Places.{Place, from_first, from_last, nth_of, spot, all_of, nth, before_is, behind_is}
 use Rattle.rules.specs.Promises.{PlacesWithin}
 use Rattle.rules.proofs.Tests.{pick_both, every_append, every_take, every_drop, every_those, every_backwards}
 
@@ -29,3 +29,7 @@ places_within t (nth_of l r n back) =
     every_nth (λ k. leb k (length t)) (pick back (backwards (all_of t l r)) (all_of t l r)) n
     (pick_both back (backwards (all_of t l r)) (all_of t l r) (λ xs. every (λ k. leb k (length t)) xs ≡ true)
     (λ _. every_backwards (λ k. leb k (length t)) (all_of t l r) (all_of_within t l r)) (λ _. all_of_within t l r))
+
+-- so does the one position where a place is
+pub spot_within : (t : List ℕ) (p : Place) (k : ℕ) → k ∷ [] ≡ spot t p → k ≤ length t
+spot_within t p k e = let within = places_within t p in let here : every (λ j. leb j (length t)) (k ∷ []) ≡ true = ap (every (λ j. leb j (length t))) e ∙ within in grind (arith, nat_tests)

@@ -23,19 +23,13 @@ module _ (ps : List declared.Part) where
   abbrev pub spelling : ℕ → List ℕ
   spelling i = flat part_spelled (the_parts (take i ps))
 
-  pub all_spelled : (i : ℕ) → length ps ≤ i → spelling i ≡ flat part_spelled (the_parts ps)
-  all_spelled i h = ap (λ l. flat part_spelled (the_parts l)) (take_all i ps h)
-
   one_more : (i : ℕ) (p : declared.Part) → i < length ps → p ≡ get_or ps i p → spelling (i + 1) ≡ spelling i ++ part_spelled (the_part p)
   one_more i p h e =
       ap (flat part_spelled) (each_past the_part ps i p h e) ∙ flat_append (the_parts (take i ps)) (the_part p ∷ [])
       ∙ ap (λ l. spelling i ++ l) (append-nil (part_spelled (the_part p)))
 
-  -- the first parts, i of them, are spelled behind w
+  -- behind w there is room for all parts, and the first, i of them, are spelled there
   module _ (w : Writing) (room : HasRoom w (flat part_spelled (the_parts ps))) where
-    pub none_spelled : w ≡ wrote w (spelling 0)
-    none_spelled = wrote_none w
-
     module _ (i : ℕ) (p : declared.Part) (h : i < length ps) (e : p ≡ get_or ps i p) where
       -- so there is room for those and one more
       more_room : HasRoom w (spelling i ++ part_spelled (the_part p))

@@ -49,6 +49,7 @@ impl Place {
 }
 
 // What a part costs that is one.
+#[tactic(auto, using(crate::proofs::SumOverParts::literal_few), unfolding(crate::specs::Rules::part_cost))]
 fn part_cost(part: &Part) -> u64
     requires { a_part (the_part part.now) ≡ true }
     ensures value { result ≡ part_cost (the_part part.now) }

@@ -4,7 +4,6 @@ ghost use Rattle.rules.specs.Faults.{checked, part_fault, literal_fault};
 ghost use Rattle.rules.specs.Rules.{bytes, a_part};
 ghost use Rattle.rules.specs.Values.{the_part};
 
-use crate::bytes::all_bytes;
 use crate::fault::Fault;
 use crate::place::Place;
 
@@ -22,12 +21,11 @@ pub enum Part {
 }
 
 // Whether a literal has as many bytes as it may have.
-#[tactic(auto, using(crate::proofs::FaultsTell::literal_right))]
+#[tactic(auto, using(crate::proofs::FaultsTell::literal_right, crate::proofs::FaultsTell::bytes_right))]
 fn check_literal(literal: &[u8]) -> Result<(), Fault>
     ensures value { result ≡ checked (literal_fault (length literal.now)) }
     ensures right { OnOk result (a_part (bytes literal.now) ≡ true) }
 {
-    all_bytes(literal);
     match literal.len() {
         1..=64 => Ok(()),
         n => Err(Fault::LiteralLength(n)),

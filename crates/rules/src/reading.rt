@@ -15,6 +15,7 @@ use std::alloc::Global;
 // What was read at the front of some bytes, and the bytes behind it; or what is wrong.
 type Reading<'a, T> = Result<(T, &'a [u8]), Fault>;
 
+#[tactic(auto, using(crate::proofs::ReadsBytes::byte_read))]
 fn read_byte(bytes: &[u8]) -> Reading<'_, u8>
     ensures { read_as (λ b. b) result ≡ read_byte bytes.now }
 {

@@ -26,6 +26,7 @@ fn place_length(place: Place) -> usize
 }
 
 // How many bytes a part is spelled with.
+#[tactic(auto, using(crate::proofs::SumOverParts::literal_few), unfolding(crate::specs::Order::part_spelled))]
 fn part_length(part: &Part) -> usize
     requires { a_part (the_part part.now) ≡ true }
     ensures value { result ≡ length (part_spelled (the_part part.now)) }
@@ -97,6 +98,7 @@ impl<'a> Writer<'a> {
     }
 
     // Spells a part.
+    #[tactic(auto, using(crate::proofs::SumOverParts::literal_few))]
     fn put_part(&mut self, part: &Part)
         requires part { a_part (the_part part.now) ≡ true }
         requires room { HasRoom (the_writing self.old) (part_spelled (the_part part.now)) }
