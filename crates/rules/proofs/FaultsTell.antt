@@ -60,3 +60,5 @@ module _ (ps : List declared.Part) where
       told = ap (λ f. or_else f (parts_fault (the_parts (drop (i + 1) ps)))) (sym (no_fault _ told)) ∙ left;
       right = ap (every a_part) (each_past the_part ps i p h e) ∙ every_push a_part _ _ clear.right here;
     }
+
+pub ruleset check_told = (many_told, part_faulty, part_clear, all_clear)

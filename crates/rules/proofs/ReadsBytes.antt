@@ -58,3 +58,5 @@ module _ (bs : List ℕ) (h : 6 ≤ length bs) where
           ap (λ k. Ok (nth_of k kr (get_or bs 4 0) back, rest)) is_left.0 ∙ ap (λ k. Ok (nth_of (number (get_or bs 0 0) (get_or bs 1 0)) k (get_or bs 4 0) back, rest)) is_right.0
           ∙ ap₂ (λ b l. Ok (nth_of (number (get_or bs 0 0) (get_or bs 1 0)) (number (get_or bs 2 0) (get_or bs 3 0)) (get_or bs 4 0) b, l)) told.0 e
           ∙ sym (long_enough ∙ all_there (number (get_or bs 0 0) (get_or bs 1 0)) (number (get_or bs 2 0) (get_or bs 3 0)) (get_or bs 4 0) (get_or bs 5 0) (drop 6 bs) is_left.1 is_right.1 told.1)
+
+pub ruleset nth_told = (no_left_kind, no_right_kind, no_direction, an_nth_place)

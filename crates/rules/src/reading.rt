@@ -44,6 +44,7 @@ fn read_back(byte: u8) -> Result<bool, Fault>
     }
 }
 
+#[tactic(auto, using(crate::proofs::ReadsBytes::nth_told))]
 fn read_nth(bytes: &[u8]) -> Reading<'_, Place>
     ensures { read_as the_place result ≡ read_nth bytes.now }
 {

@@ -14,6 +14,7 @@ pub struct Rule {
 }
 
 // Whether these parts are a rule, and if not, what is wrong with them first.
+#[tactic(auto, using(crate::proofs::FaultsTell::check_told))]
 fn check_parts(parts: &[Part]) -> Result<(), Fault>
     ensures value { result ≡ checked (rule_fault (the_parts parts.now)) }
     ensures right { OnOk result (a_rule (the_parts parts.now) ≡ true) }
