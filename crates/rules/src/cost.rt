@@ -38,12 +38,7 @@ impl Place {
     {
         match self {
             Place::FromFirst(n) | Place::FromLast(n) => offset_cost(n),
-            Place::NthOf {
-                left,
-                right,
-                n,
-                back: _,
-            } => 3 + n as u64 + left.cost() + right.cost(),
+            Place::NthOf { left, right, n, .. } => 3 + n as u64 + left.cost() + right.cost(),
         }
     }
 }

@@ -55,12 +55,7 @@ impl Place {
     {
         match self {
             Place::FromFirst(n) | Place::FromLast(n) => check_number(n),
-            Place::NthOf {
-                left,
-                right,
-                n,
-                back: _,
-            } => check_nth(left, right, n),
+            Place::NthOf { left, right, n, .. } => check_nth(left, right, n),
         }
     }
 }
