@@ -44,7 +44,7 @@ module _ (ps : List declared.Part) where
   all_clear i clear few all = (
     ap checked (sym (sym (few_told few) ∙ sym clear.told ∙ ap (λ qs. parts_fault (the_parts qs)) (drop_all i ps all))),
     let long = each_length the_part ps in
-    and_from _ _ (le-leb _ _ (omega arith)) (ap (λ qs. every a_part (the_parts qs)) (sym (take_all i ps all)) ∙ clear.right),
+        and_from _ _ (le-leb _ _ (omega arith)) (ap (λ qs. every a_part (the_parts qs)) (sym (take_all i ps all)) ∙ clear.right),
   )
 
   module _ (i : ℕ) (p : declared.Part) (h : i < length ps) (e : p ≡ get_or ps i p) (clear : Clear i) where

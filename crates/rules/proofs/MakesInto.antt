@@ -1,8 +1,8 @@
 -- Going through the parts of a rule measures what it makes, and writes it.
-use Rattle.std.proofs.Common.{◌≡◌, ℕ, ◌+◌, ◌-◌, ◌^◌, ◌<◌, ◌≤◌, min, Bool, true, false, leb, List, [], ◌∷◌, ◌++◌, length, get_or, take, drop, Some, None, Ok, Err, Option, sym, refl, ap, ◌∙◌, subst, ap₂, subst₂, arith, length-append}
+use Rattle.std.proofs.Common.{◌≡◌, ℕ, ◌+◌, ◌-◌, ◌^◌, ◌<◌, ◌≤◌, min, List, [], ◌∷◌, length, get_or, take, drop, Some, None, sym, refl, ap, ◌∙◌, subst, subst₂, arith, length-append}
 use Rattle.std.proofs.lemmas.List.{take-append-drop, take_all}
-use Rattle.std.proofs.lemmas.Bool.{le-leb, lt-leb, leb-true, leb-false}
-use Rattle.rules.specs.Answers.{written, written_left, counted, made_told, made_left, FitsIn}
+use Rattle.std.proofs.lemmas.Bool.{le-leb}
+use Rattle.rules.specs.Answers.{written, counted, made_left, FitsIn}
 use Rattle.rules.specs.Lists.{pick}
 use Rattle.rules.specs.Rules.{Made, nothing, made, with_made, makes, part_of}
 use Rattle.rules.specs.Values.{the_part, the_parts}

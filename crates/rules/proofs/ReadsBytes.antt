@@ -1,11 +1,11 @@
 -- What is read of a byte, and of an nth place, by what the bytes say.
 use Rattle.std.proofs.Common.{◌≡◌, ℕ, ◌-◌, ◌<◌, ◌≤◌, Bool, true, false, eqb, leb, List, [], ◌∷◌, length, get_or, take, drop, Ok, Err, sym, ap, ◌∙◌, ap₂, arith}
 use Rattle.std.proofs.lemmas.List.{take_rest}
-use Rattle.std.proofs.lemmas.Bool.{le-leb, le-ltb}
+use Rattle.std.proofs.lemmas.Bool.{le-ltb}
 use Rattle.rules.specs.Lists.{pick}
 use Rattle.rules.specs.Places.{nth_of}
-use Rattle.rules.specs.Reading.{and_then, number, read_byte, nth_read, read_nth, read_literal}
-use Rattle.rules.specs.Rules.{bytes, a_kind}
+use Rattle.rules.specs.Reading.{number, read_byte, nth_read, read_nth}
+use Rattle.rules.specs.Rules.{a_kind}
 use Rattle.rules.specs.declared.fault.Fault.{Fault}
 use Rattle.rules.specs.declared.fault.Fault.TheVariants.{KindNumber, Tag, EndsEarly}
 

@@ -1,17 +1,17 @@
 -- Going through the parts of a rule spells it.
-use Rattle.std.proofs.Common.{◌≡◌, ℕ, ◌+◌, ◌*◌, ◌<◌, ◌≤◌, true, leb, List, [], ◌∷◌, ◌++◌, length, get_or, take, drop, Ok, Err, IsOk, sym, refl, ap, ◌∙◌, ap₂, append_assoc, append-nil, arith, length-append}
-use Rattle.std.proofs.lemmas.List.{take-append-drop, take_all}
+use Rattle.std.proofs.Common.{◌≡◌, ℕ, ◌+◌, ◌*◌, ◌<◌, ◌≤◌, true, leb, List, [], ◌∷◌, ◌++◌, length, get_or, take, drop, IsOk, sym, refl, ap, ◌∙◌, append_assoc, append-nil, arith, length-append}
+use Rattle.std.proofs.lemmas.List.{take-append-drop}
 use Rattle.std.proofs.lemmas.Bool.{le-leb, leb-true, and_parts}
-use Rattle.rules.specs.Answers.{written, written_told, written_left}
-use Rattle.rules.specs.Lists.{pick, every, flat}
+use Rattle.rules.specs.Answers.{written_told}
+use Rattle.rules.specs.Lists.{every, flat}
 use Rattle.rules.specs.Places.{Place, from_first, from_last, nth_of}
 use Rattle.rules.specs.Order.{place_spelled, part_spelled, rule_spelled}
 use Rattle.rules.specs.Rules.{Part, bytes, cut, Rule, a_part, a_rule}
 use Rattle.rules.specs.Values.{the_part, the_parts}
 use Rattle.rules.specs.declared.part.Part as declared
-use Rattle.rules.proofs.EachElement.{each_append, each_past, each_length}
+use Rattle.rules.proofs.EachElement.{each_append, each_past}
 use Rattle.rules.proofs.SumOverParts.{literal_short}
-use Rattle.rules.proofs.WrittenBytes.{wrote_none, room_next, wrote_next}
+use Rattle.rules.proofs.WrittenBytes.{room_next, wrote_next}
 use Rattle.rules.specs.Writing.{Writing, wrote, HasRoom}
 
 flat_append : (r q : Rule) → flat part_spelled (r ++ q) ≡ flat part_spelled r ++ flat part_spelled q

@@ -3,11 +3,10 @@ ghost use Rattle.std.specs.Prelude.{◌≡◌};
 ghost use Rattle.rules.specs.Entry.{FindSays, refusal};
 ghost use Rattle.rules.specs.declared.entry.FindRefusal.TheVariants.{NoKind};
 
-use std::error::Error;
-use std::fmt;
-
 use crate::kind::{Kind, NotAKind};
 use crate::spot::nth_spot;
+use std::error::Error;
+use std::fmt;
 
 // Why a place is not looked for.
 #[derive(Clone, Copy, PartialEq, Eq, Debug)]

@@ -8,9 +8,8 @@ ghost use Rattle.std.specs.Prelude.{◌≡◌, length};
 ghost use Rattle.rules.specs.Order.{rule_spelled, rule_before, rule_cmp};
 ghost use Rattle.rules.specs.Held.{the_rule};
 
-use std::cmp::Ordering;
-
 use crate::rule::Rule;
+use std::cmp::Ordering;
 
 // Room for the spelling of any rule: the number of its parts, and eight parts of up to 66 bytes.
 const LONGEST: usize = 529;

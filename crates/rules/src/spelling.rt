@@ -1,5 +1,5 @@
 // How a rule is spelled in bytes.
-ghost use Rattle.std.specs.Prelude.{◌≡◌, ◌+◌, ◌≤◌, true, length};
+ghost use Rattle.std.specs.Prelude.{◌≡◌, ◌≤◌, true, length};
 ghost use Rattle.rules.specs.Answers.{written_told, written_left};
 ghost use Rattle.rules.specs.Lists.{flat};
 ghost use Rattle.rules.specs.Order.{place_spelled, part_spelled, rule_spelled};
