@@ -54,6 +54,7 @@ impl fmt::Display for Fault {
 
 impl Error for Fault {}
 
+// By hand, since contracts read `from_gives`.
 impl From<AllocError> for Fault {
     ghost from_gives = { λ _ r. r ≡ Memory };
 

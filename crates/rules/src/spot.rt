@@ -49,6 +49,7 @@ pub(crate) fn nth_spot(text: &[u8], left: Kind, right: Kind, n: u64, back: bool)
 {
     let before = n.checked_sub(1)? as usize;
     let fits = |at: &usize| is_between(text, left, right, *at);
+    // Not `0..=text.len()`: the proof of a chain from such a range doesn't close.
     let positions = 0..text.len() + 1;
     if back {
         positions.rev().filter(fits).nth(before)
