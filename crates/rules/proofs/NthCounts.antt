@@ -1,9 +1,8 @@
--- The elements of a list that pass a test, and the nth of them; and the positions of a text, from either end, as such a list.
-use Rattle.std.proofs.Common.{◌≡◌, ℕ, zero, suc, ◌+◌, ◌-◌, Bool, true, false, cond, List, [], ◌∷◌, ◌++◌, reverse, length, take, drop, sym, refl, ap, ◌∙◌, ap₂, append-nil, add-one, arith}
-use Rattle.std.proofs.lemmas.Bool.{ne_eqb}
-use Rattle.std.proofs.lemmas.List.{length_push, reverse-append}
-use Rattle.std.specs.List.{filter, range_with_len, slice_get}
-use Rattle.std.specs.Option.{option_to_list}
+-- Counting the elements of a list that pass a test finds the nth of them; and the positions of a text, from either end, as such a list.
+use Rattle.std.proofs.Common.{◌≡◌, ℕ, zero, suc, ◌+◌, ◌-◌, ◌<◌, ◌≤◌, Bool, true, false, cond, eqb, List, [], ◌∷◌, ◌++◌, reverse, length, get_or, take, drop, sym, refl, ap, ◌∙◌, ap₂, ⊎_elim, append-nil, add-one, arith, length-append}
+use Rattle.std.proofs.lemmas.List.{take-append-drop, drop_more, take_more, drop_all, drop_at, get_or_at, get_or_append_left, get_or-reverse, length_push, length-reverse, reverse-append}
+use Rattle.std.proofs.lemmas.Bool.{ne_eqb, cases_eq}
+use Rattle.std.specs.List.{filter, range_with_len}
 use Rattle.rules.specs.Lists.{pick, those, up_to, backwards}
 use Rattle.rules.specs.Places.{nth}
 
@@ -30,23 +29,50 @@ module _ (f : ℕ → Bool) where
       same true = refl
       same false = refl
 
--- what the library finds at a place of a list is the nth of it
-pub nth_is : (xs : List ℕ) (n others : ℕ) → n ≡ others + 1 → option_to_list (slice_get xs others) ≡ nth xs n
-nth_is xs n others h =
-    let k : others ≡ n - 1 = omega arith in
-    at xs others ∙ ap (λ i. take 1 (drop i xs)) k ∙ sym (ap (λ b. pick b [] (take 1 (drop (n - 1) xs))) (ne_eqb n 0 (λ z. omega arith)))
-  where
-    at : (ys : List ℕ) (k : ℕ) → option_to_list (slice_get ys k) ≡ take 1 (drop k ys)
-    at [] zero = refl
-    at [] (suc k) = refl
-    at (y ∷ ys) zero = refl
-    at (y ∷ ys) (suc k) = at ys k
+  -- one element more: the count rises where it passes
+  pub counts_more : (xs : List ℕ) (i x : ℕ) → i < length xs → x ≡ get_or xs i 0 → length (those f (take (i + 1) xs)) ≡ pick (f x) (length (those f (take i xs)) + 1) (length (those f (take i xs)))
+  counts_more xs i x h e =
+      ap (λ l. length (those f l)) (take_more xs i 0 h) ∙ ap (λ y. length (those f (take i xs ++ y ∷ []))) (sym e)
+      ∙ ap length (those-++ (take i xs) (x ∷ [])) ∙ length-append (those f (take i xs)) (those f (x ∷ [])) ∙ grind arith
+
+  those_split : (xs : List ℕ) (i x : ℕ) → i < length xs → x ≡ get_or xs i 0 → f x ≡ true → those f xs ≡ those f (take i xs) ++ x ∷ those f (drop (i + 1) xs)
+  those_split xs i x h e t =
+      ap (those f) (sym (take-append-drop i xs)) ∙ those-++ (take i xs) (drop i xs)
+      ∙ ap (λ l. those f (take i xs) ++ those f l) (drop_more xs i 0 h ∙ ap (λ y. y ∷ drop (i + 1) xs) (sym e))
+      ∙ ap (λ b. those f (take i xs) ++ pick b (x ∷ those f (drop (i + 1) xs)) (those f (drop (i + 1) xs))) t
+
+  -- the element with which the count comes to n is the nth
+  pub nth_found : (xs : List ℕ) (i x n : ℕ) → i < length xs → x ≡ get_or xs i 0 → f x ≡ true → length (those f (take i xs)) + 1 ≡ n → nth (those f xs) n ≡ x ∷ []
+  nth_found xs i x n h e t c =
+      let some : eqb n 0 ≡ false = ne_eqb n 0 (λ z. omega arith) in
+      let before : length (those f (take i xs)) ≡ n - 1 = omega arith in
+      ap (λ b. pick b [] (take 1 (drop (n - 1) (those f xs)))) some
+      ∙ ap (λ l. take 1 (drop (n - 1) l)) (those_split xs i x h e t)
+      ∙ ap (take 1) (drop_at (those f (take i xs)) (x ∷ those f (drop (i + 1) xs)) (n - 1) before)
+
+  -- where the count stays below n there is no nth
+  pub nth_missing : (xs : List ℕ) (n : ℕ) → (0 < n → length (those f xs) < n) → nth (those f xs) n ≡ []
+  nth_missing xs zero few = refl
+  nth_missing xs (suc n) few =
+      let some : eqb (suc n) 0 ≡ false = ne_eqb (suc n) 0 (λ z. omega arith) in
+      ap (λ b. pick b [] (take 1 (drop (suc n - 1) (those f xs)))) some
+      ∙ ap (take 1) (drop_all (suc n - 1) (those f xs) (let k = few (omega arith) in omega arith))
 
 -- THE POSITIONS OF A TEXT
 pub length_up_to : (n : ℕ) → length (up_to n) ≡ n
 unfolding up_to
 length_up_to zero = refl
 length_up_to (suc n) = length_push (up_to n) n ∙ ap (λ k. k + 1) (length_up_to n) ∙ add-one n
+
+pub up_to_at : (n i : ℕ) → i < n → get_or (up_to n) i 0 ≡ i
+unfolding up_to
+up_to_at zero i h = absurd (omega arith)
+up_to_at (suc n) i h =
+    let l = length_up_to n in
+    ⊎_elim
+    (λ e. get_or_at (up_to n) n [] 0 i (l ∙ sym e) ∙ sym e)
+    (λ ne. get_or_append_left (up_to n) (n ∷ []) 0 i (omega arith) ∙ up_to_at n i (omega arith))
+    (cases_eq i n)
 
 pub up_to_is : (n : ℕ) → range_with_len 0 n ≡ up_to n
 unfolding up_to
@@ -62,23 +88,20 @@ unfolding backwards
 backwards_is [] = refl
 backwards_is (x ∷ xs) = ap (λ l. l ++ x ∷ []) (backwards_is xs) ∙ sym (reverse-append (x ∷ []) xs)
 
--- k numbers, from just below a + k down to a
-abbrev pub down_to : ℕ → ℕ → List ℕ
-down_to a zero = []
-down_to a (suc k) = (a + k) ∷ down_to a k
-
-pub down_to_is : (n : ℕ) → down_to 0 n ≡ backwards (up_to n)
-unfolding up_to backwards
-down_to_is zero = refl
-down_to_is (suc n) = let z : 0 + n ≡ n = omega arith in ap₂ (λ x l. x ∷ l) z (down_to_is n) ∙ sym (last_first (up_to n))
-  where
-    last_first : (xs : List ℕ) → backwards (xs ++ n ∷ []) ≡ n ∷ backwards xs
-    last_first [] = refl
-    last_first (x ∷ xs) = ap (λ l. l ++ x ∷ []) (last_first xs)
-
 -- all positions of a text of n bytes, from either end
 abbrev pub positions : ℕ → Bool → List ℕ
 positions n back = pick back (backwards (up_to (suc n))) (up_to (suc n))
+
+pub length_positions : (n : ℕ) (back : Bool) → length (positions n back) ≡ suc n
+length_positions n true = ap length (backwards_is (up_to (suc n))) ∙ length-reverse (up_to (suc n)) ∙ length_up_to (suc n)
+length_positions n false = length_up_to (suc n)
+
+pub positions_at : (n i : ℕ) (back : Bool) → i ≤ n → pick back (n - i) i ≡ get_or (positions n back) i 0
+positions_at n i true h =
+    let l = length_up_to (suc n) in
+    sym (ap (λ x. get_or x i 0) (backwards_is (up_to (suc n))) ∙ get_or-reverse (up_to (suc n)) i 0 (omega arith)
+    ∙ ap (λ k. get_or (up_to (suc n)) k 0) (let k : length (up_to (suc n)) - 1 - i ≡ n - i = omega arith in k) ∙ up_to_at (suc n) (n - i) (omega arith))
+positions_at n i false h = sym (up_to_at (suc n) i (omega arith))
 
 -- those of the positions that pass, from the end or the beginning
 pub those_positions : (f : ℕ → Bool) (n : ℕ) (back : Bool) → those f (positions n back) ≡ pick back (backwards (those f (up_to (suc n)))) (those f (up_to (suc n)))

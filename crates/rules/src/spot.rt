@@ -1,6 +1,7 @@
 // Where a place is in a text.
-ghost use Rattle.std.specs.Prelude.{◌≡◌, ◌&&◌, length};
+ghost use Rattle.std.specs.Prelude.{◌≡◌, ◌-◌, ◌≤◌, ◌&&◌, length};
 ghost use Rattle.std.specs.Option.{option_to_list};
+ghost use Rattle.rules.specs.Lists.{pick};
 ghost use Rattle.rules.specs.Places.{there, before_is, behind_is, all_of, nth_of, spot};
 ghost use Rattle.rules.specs.Values.{kind_number, the_place};
 
@@ -43,25 +44,37 @@ fn is_between(text: &[u8], left: Kind, right: Kind, at: usize) -> bool
     before_is(text, left, at) && behind_is(text, right, at)
 }
 
+// The position that comes after `step` others: from the beginning, or from the end if `back`.
+fn position(len: usize, step: usize, back: bool) -> usize
+    requires { step ≤ len }
+    ensures { result ≡ pick back (len - step) step }
+{
+    if back { len - step } else { step }
+}
+
 // The nth place before which there is a `left` and behind which there is a `right`, counted from 1, from the end if `back`.
 pub(crate) fn nth_spot(text: &[u8], left: Kind, right: Kind, n: u64, back: bool) -> Option<usize>
     ensures { option_to_list result ≡ spot text.now (nth_of (kind_number left) (kind_number right) n back) }
 {
-    let before = n.checked_sub(1)? as usize;
-    let fits = |at: &usize| is_between(text, left, right, *at);
-    // Not `0..=text.len()`: the proof of a chain from such a range doesn't close.
-    let positions = 0..text.len() + 1;
-    if back {
-        positions.rev().filter(fits).nth(before)
-    } else {
-        positions.filter(fits).nth(before)
+    // A loop, since `filter` and `nth` took half as long again.
+    let mut count = 0u64;
+    for step in 0..=text.len() {
+        let at = position(text.len(), step, back);
+        if is_between(text, left, right, at) {
+            count += 1;
+            if count == n {
+                return Some(at);
+            }
+        }
     }
+    None
 }
 
 // How many places there are before which there is a `left` and behind which there is a `right`.
 pub fn count_between(text: &[u8], left: Kind, right: Kind) -> usize
     ensures { result ≡ length (all_of text.now (kind_number left) (kind_number right)) }
 {
+    // Not `0..=text.len()`: the proof of a chain from such a range doesn't close.
     (0..text.len() + 1)
         .filter(|at| is_between(text, left, right, *at))
         .count()

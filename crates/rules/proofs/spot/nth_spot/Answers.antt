@@ -1,22 +1,23 @@
-use Rattle.std.proofs.Common.{refl, arith, rules, tests}
-use Rattle.std.proofs.lemmas.Iterator.Consumers.{nth_from_yields_List, YieldsList-from_filter, YieldsList-at}
+use Rattle.std.proofs.Common.{◌+◌, sym, rules}
 use Rattle.rules.specs.Values.{kind_number}
-use Rattle.rules.proofs.NthSpot.{fits, from_front, from_back, nth_spot_is, no_spot}
+use Rattle.rules.proofs.NthSpot.{Counted, counted_fits, counted_not, counted_found, counted_all}
 use Rattle.rules.proofs.spot.nth_spot.Goals as goal
+use Rattle.rules.proofs.spot.nth_spot.Goals.{Joined-is_between, then-is_between+else-count-n, else-is_between}
 
-pub returns-in_err-before : goal.returns-in_err-before
-returns-in_err-before c = rw c.from_residual.ensures (no_spot _ _ _ _ _ (omega arith))
+pub returns-then-count-n : goal.returns-then-count-n
+returns-then-count-n c =
+    counted_found _ _ _ _ _ _ _ _ c.loop-step.invariant (search rules) c.position-at.ensures (sym c.if-is_between.ensures) c.if-count-n.true
 
-pub returns-then-back : goal.returns-then-back
-returns-then-back c =
-    rw c.if-back.true
-    (nth_spot_is _ (kind_number c.args.left) (kind_number c.args.right) _ _ _ _ (omega arith)
-    (nth_from_yields_List _ _ _ c.nth.ensures.ran
-    (YieldsList-from_filter _ (fits c.args.text.now (kind_number c.args.left) (kind_number c.args.right)) (YieldsList-at c.filter.ensures.source (from_back _ _ c.rev.ensures.source)) c.filter.ensures.closure (λ x r q k. search (rules, tests)))))
+-- after a turn, one position more is counted
+one_more : (c : Joined-is_between) → Counted c.args.text.now (kind_number c.args.left) (kind_number c.args.right) c.args.n c.args.back c.if-is_between.count (c.loop-step.step + 1)
+one_more c =
+    elim c.if-is_between.branch [
+      | then-is_between+else-count-n w ↦ counted_fits _ _ _ _ _ _ _ _ c.loop-step.invariant (search rules) c.position-at.ensures _ w.count-is (sym w.if-is_between.ensures) w.if-count-n.false
+      | else-is_between w ↦ counted_not _ _ _ _ _ _ _ _ c.loop-step.invariant (search rules) c.position-at.ensures _ w.count-is (sym w.if-is_between.ensures)
+    ]
 
-pub returns-else-back : goal.returns-else-back
-returns-else-back c =
-    rw c.if-back.false
-    (nth_spot_is _ (kind_number c.args.left) (kind_number c.args.right) _ _ _ _ (omega arith)
-    (nth_from_yields_List _ _ _ c.nth-else-back.ensures.ran
-    (YieldsList-from_filter _ (fits c.args.text.now (kind_number c.args.left) (kind_number c.args.right)) (YieldsList-at c.filter-else-back.ensures.source (from_front _ _ refl)) c.filter-else-back.ensures.closure (λ x r q k. search (rules, tests)))))
+pub loop-step-preserved : goal.loop-step-preserved
+loop-step-preserved c = one_more (goal.at.loop-step-preserved c).Joined-is_between
+
+pub returns-after-is_between : goal.returns-after-is_between
+returns-after-is_between c = counted_all _ _ _ _ _ _ _ (one_more (goal.at.returns-after-is_between c).Joined-is_between) (search rules)
