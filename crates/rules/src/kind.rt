@@ -74,10 +74,10 @@ impl Kind {
     {
         match self {
             Kind::Anything => false,
-            Kind::Digits => byte.is_ascii_digit(),
-            Kind::Letters => byte.is_ascii_alphabetic(),
-            Kind::Capitals => byte.is_ascii_uppercase(),
-            Kind::SmallLetters => byte.is_ascii_lowercase(),
+            Kind::Digits => matches!(byte, b'0'..=b'9'),
+            Kind::Letters => matches!(byte, b'A'..=b'Z' | b'a'..=b'z'),
+            Kind::Capitals => matches!(byte, b'A'..=b'Z'),
+            Kind::SmallLetters => matches!(byte, b'a'..=b'z'),
             Kind::Blanks => byte == b' ',
             Kind::Sign(sign) => byte == sign,
         }
