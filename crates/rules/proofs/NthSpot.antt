@@ -20,9 +20,6 @@ module _ (t : List ℕ) (l r n : ℕ) (back : Bool) where
     pub within : count ≤ step
     pub few : 0 < n → count < n
 
-  pub counted_none : Counted 0 0
-  counted_none = record { so_far = refl; within = omega arith; few = λ h. h }
-
   module _ (count step at : ℕ) (c : Counted count step) (h : step ≤ length t) (e : at ≡ pick back (length t - step) step) where
     inside : step < length (positions (length t) back)
     inside = let k = length_positions (length t) back in omega arith
