@@ -1,5 +1,5 @@
 -- Going through the positions of a text and counting finds where an nth place is, and how many there are.
-use Rattle.std.proofs.Common.{◌≡◌, ℕ, suc, ◌+◌, ◌-◌, ◌<◌, ◌≤◌, Bool, true, false, ◌&&◌, List, [], ◌∷◌, length, get_or, take, sym, refl, ap, ◌∙◌, subst, arith}
+use Rattle.std.proofs.Common.{◌≡◌, ℕ, suc, ◌+◌, ◌-◌, ◌<◌, ◌≤◌, Bool, true, false, ◌&&◌, List, [], ◌∷◌, length, get_or, take, sym, ap, ◌∙◌, subst, arith}
 use Rattle.std.proofs.iter.Yields.{nat_range_steps}
 use Rattle.std.proofs.lemmas.Iterator.{YieldsList, YieldsList-from_range}
 use Rattle.std.proofs.lemmas.List.{take_all}
@@ -19,9 +19,6 @@ module _ (t : List ℕ) (l r n : ℕ) (back : Bool) where
     pub so_far : count ≡ length (those (fits t l r) (take step (positions (length t) back)))
     pub within : count ≤ step
     pub few : 0 < n → count < n
-
-  pub counted_none : Counted 0 0
-  counted_none = record { so_far = refl; within = omega arith; few = λ h. h }
 
   module _ (count step at : ℕ) (c : Counted count step) (h : step ≤ length t) (e : at ≡ pick back (length t - step) step) where
     inside : step < length (positions (length t) back)

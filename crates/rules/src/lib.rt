@@ -1,7 +1,6 @@
 // Rules that make a text of a text: what they make, what they cost, how they are spelled, and which comes first.
 #![tactic(auto)]
 
-mod bytes;
 mod cost;
 mod cut;
 mod entry;
@@ -19,7 +18,6 @@ mod spelling;
 mod spot;
 mod worked;
 
-pub use bytes::all_bytes;
 pub use entry::{FindRefusal, find};
 pub use fault::Fault;
 pub use kind::{Kind, NotAKind};
