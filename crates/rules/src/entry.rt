@@ -5,28 +5,16 @@ ghost use Rattle.rules.specs.declared.entry.FindRefusal.TheVariants.{NoKind};
 
 use crate::kind::{Kind, NotAKind};
 use crate::spot::nth_spot;
-use std::error::Error;
-use std::fmt;
+use thiserror::Error;
 
 // Why a place is not looked for.
-#[derive(Clone, Copy, PartialEq, Eq, Debug)]
+#[derive(Clone, Copy, PartialEq, Eq, Debug, Error)]
 pub enum FindRefusal {
-    // The text is longer than 65,535 bytes.
+    #[error("the text is longer than 65535 bytes")]
     TooLong,
-    // A number is that of no kind.
+    #[error("a number is that of no kind")]
     NoKind,
 }
-
-impl fmt::Display for FindRefusal {
-    fn fmt<W: fmt::Write>(&self, f: &mut fmt::Formatter<W>) -> fmt::Result {
-        f.write_str(match self {
-            FindRefusal::TooLong => "the text is longer than 65535 bytes",
-            FindRefusal::NoKind => "a number is that of no kind",
-        })
-    }
-}
-
-impl Error for FindRefusal {}
 
 impl From<NotAKind> for FindRefusal {
     ghost from_gives = { λ _ r. r ≡ NoKind };

@@ -3,8 +3,7 @@ ghost use Rattle.std.specs.Prelude.{◌≡◌};
 ghost use Rattle.rules.specs.Places.{of_kind};
 ghost use Rattle.rules.specs.Values.{kind_number, IsNumberOf, KindOf};
 
-use std::error::Error;
-use std::fmt;
+use thiserror::Error;
 
 #[derive(Clone, Copy, PartialEq, Eq, Debug)]
 pub enum Kind {
@@ -18,17 +17,9 @@ pub enum Kind {
     Sign(u8),
 }
 
-// No kind has this number.
-#[derive(Clone, Copy, PartialEq, Eq, Debug)]
+#[derive(Clone, Copy, PartialEq, Eq, Debug, Error)]
+#[error("no kind has the number {0}")]
 pub struct NotAKind(pub u64);
-
-impl fmt::Display for NotAKind {
-    fn fmt<W: fmt::Write>(&self, f: &mut fmt::Formatter<W>) -> fmt::Result {
-        write!(f, "no kind has the number {}", self.0)
-    }
-}
-
-impl Error for NotAKind {}
 
 // The number by which a kind is known: 0 to 5, or 256 and the sign.
 impl From<Kind> for u16 {

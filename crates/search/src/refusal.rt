@@ -5,12 +5,13 @@ ghost use Rattle.search.specs.Begun.{told_by};
 ghost use Rattle.search.specs.Refusals.{refusal_of};
 
 use candidates::{Example, are_small};
+use thiserror::Error;
 
-#[derive(Clone, Copy, PartialEq, Eq, Debug)]
+#[derive(Clone, Copy, PartialEq, Eq, Debug, Error)]
 pub enum Refusal {
-    // There are more than eight.
+    #[error("there are more than eight examples")]
     TooMany,
-    // A text has more than 64 bytes.
+    #[error("a text is longer than 64 bytes")]
     TooLong,
 }
 
