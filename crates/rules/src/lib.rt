@@ -15,6 +15,7 @@ mod promises;
 mod reading;
 mod room;
 mod rule;
+mod sides;
 mod spelling;
 mod spot;
 mod worked;
@@ -32,5 +33,5 @@ pub use promises::{
 };
 pub use room::{NoRoom, put};
 pub use rule::Rule;
-pub use spot::count_between;
+pub use sides::Sides;
 pub use worked::{worked_refusals, worked_table};
