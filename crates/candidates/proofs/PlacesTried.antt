@@ -1,9 +1,7 @@
 -- The steps of the walk through the places of a text try the places that the definitions list.
-use Rattle.std.proofs.Common.{◌≡◌, ℕ, zero, suc, ◌+◌, ◌<◌, ◌≤◌, Bool, true, false, List, [], ◌∷◌, ◌++◌, length, get_or, take, sym, refl, ap, ◌∙◌, ap₂, append_assoc, append-nil, arith}
+use Rattle.std.proofs.Common.{◌≡◌, ℕ, zero, suc, ◌+◌, ◌<◌, ◌≤◌, Bool, true, false, eqb, List, [], ◌∷◌, ◌++◌, length, get_or, take, sym, refl, ap, ◌∙◌, append_assoc, append-nil, arith}
 use Rattle.std.proofs.lemmas.List.{take_all}
-use Rattle.std.proofs.lemmas.Bool.{ne_eqb}
 use Rattle.rules.specs.declared.kind.Kind.{Kind}
-use Rattle.rules.specs.declared.kind.Kind.TheVariants.{Anything}
 use Rattle.rules.specs.Lists.{pick, each, flat, up_to}
 use Rattle.rules.specs.Places.{Place, from_first, from_last, nth_of, all_of}
 use Rattle.rules.specs.Values.{kind_number}
@@ -12,24 +10,18 @@ use Rattle.candidates.specs.declared.table.Table as declared
 use Rattle.candidates.specs.Places.{both_ways, places_between, places_behind, places_among, counted, places_in, kinds_in}
 use Rattle.candidates.specs.Tables.{the_table, Becomes, all_tried_for}
 use Rattle.candidates.specs.Weights.{smaller}
-use Rattle.candidates.proofs.KindsCollected.{zero_is}
 use Rattle.candidates.proofs.TriedInTurn.{tried_more, tried_same, tried_end, Tried, of_kinds, kinds_next, kinds_end}
 
 -- both are anything, or not
-pub between_nothing : (t : List ℕ) (l r : Kind) → l ≡ Anything → r ≡ Anything → [] ≡ places_between t (kind_number l) (kind_number r)
+pub between_nothing : (t : List ℕ) (l r : ℕ) → eqb (l + r) 0 ≡ true → [] ≡ places_between t l r
 unfolding places_between
-between_nothing t l r h k = ap₂ (λ a b. places_between t (kind_number a) (kind_number b)) (sym h) (sym k)
+between_nothing t l r h = sym (ap (λ z. pick z [] (flat (both_ways l r) (up_to (smaller (length (all_of t l r)) 64)))) h)
 
-pub between_kinds : (t : List ℕ) (l r : Kind) (count : ℕ) → (l ≡ Anything → r ≡ Anything → ⊥)
-    → count ≡ smaller (length (all_of t (kind_number l) (kind_number r))) 64
-    → flat (both_ways (kind_number l) (kind_number r)) (up_to count) ≡ places_between t (kind_number l) (kind_number r)
+pub between_kinds : (t : List ℕ) (l r count : ℕ) → eqb (l + r) 0 ≡ false → count ≡ smaller (length (all_of t l r)) 64
+    → flat (both_ways l r) (up_to count) ≡ places_between t l r
 unfolding places_between
 between_kinds t l r count h c =
-    let a : ℕ = kind_number l in
-    let b : ℕ = kind_number r in
-    let apart : a + b ≡ 0 → ⊥ = λ z. h (zero_is l (omega arith)) (zero_is r (omega arith)) in
-    ap (λ k. flat (both_ways a b) (up_to k)) c
-    ∙ sym (ap (λ z. pick z [] (flat (both_ways a b) (up_to (smaller (length (all_of t a b)) 64)))) (ne_eqb (a + b) 0 apart))
+    ap (λ k. flat (both_ways l r) (up_to k)) c ∙ sym (ap (λ z. pick z [] (flat (both_ways l r) (up_to (smaller (length (all_of t l r)) 64)))) h)
 
 -- from the beginning, then from the end
 pub ways_next : (l r n i : ℕ) (d : Bool) (front : List Place) → i < 2

@@ -19,15 +19,10 @@ fn place_numbers(place: Place) -> [u64; COST_AT]
     match place {
         Place::FromFirst(n) => [0, 0, 0, n as u64, 0],
         Place::FromLast(n) => [1, 0, 0, n as u64, 0],
-        Place::NthOf {
-            left,
-            right,
-            n,
-            back,
-        } => [
+        Place::NthOf { sides, n, back } => [
             2,
-            u16::from(left) as u64,
-            u16::from(right) as u64,
+            u16::from(sides.left) as u64,
+            u16::from(sides.right) as u64,
             n as u64,
             back as u64,
         ],

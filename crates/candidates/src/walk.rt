@@ -12,14 +12,14 @@ use crate::kinds::kinds_in;
 use crate::question::Question;
 use crate::row::row_of;
 use crate::table::Table;
-use rules::{Kind, Place, count_between};
+use rules::{Kind, Place, Sides};
 
-// How many places there are between two kinds, up to 64.
-fn fits(text: &[u8], left: Kind, right: Kind) -> u8
-    ensures value { result ≡ smaller (length (all_of text.now (kind_number left) (kind_number right))) 64 }
+// How many places there are with these sides, up to 64.
+fn fits(text: &[u8], sides: Sides) -> u8
+    ensures value { result ≡ smaller (length (all_of text.now (kind_number sides.left) (kind_number sides.right))) 64 }
     ensures bound { result ≤ 64 }
 {
-    count_between(text, left, right).min(64) as u8
+    sides.count_in(text).min(64) as u8
 }
 
 impl Table<'_> {
@@ -44,18 +44,17 @@ impl Table<'_> {
         }
     }
 
-    // Tries the places between two kinds that are there in the first given text.
-    fn try_between(&mut self, question: Question, left: Kind, right: Kind)
-        ensures { Tries question.entry self.old self.new (places_between (first_of question.entry) (kind_number left) (kind_number right)) }
+    // Tries the places with these sides that are there in the first given text.
+    fn try_between(&mut self, question: Question, sides: Sides)
+        ensures { Tries question.entry self.old self.new (places_between (first_of question.entry) (kind_number sides.left) (kind_number sides.right)) }
     {
-        if left == Kind::Anything && right == Kind::Anything {
+        if sides.are_anything() {
             return;
         }
-        for n in 0..fits(question.first_given(), left, right) {
+        for n in 0..fits(question.first_given(), sides) {
             for back in [false, true] {
                 let place = Place::NthOf {
-                    left,
-                    right,
+                    sides,
                     n: n + 1,
                     back,
                 };
@@ -70,7 +69,11 @@ impl Table<'_> {
     {
         for left in kinds {
             for right in kinds {
-                self.try_between(question, *left, *right);
+                let sides = Sides {
+                    left: *left,
+                    right: *right,
+                };
+                self.try_between(question, sides);
             }
         }
     }

@@ -6,7 +6,7 @@ ghost use Rattle.console.specs.Text.{hex, shown, quoted, number_text, count_text
 ghost use Rattle.rules.specs.Held.{the_rule};
 
 use crate::words;
-use rules::{Cut, Kind, Part, Place, Rule};
+use rules::{Cut, Kind, Part, Place, Rule, Sides};
 use std::alloc::{AllocError, Global};
 
 // A hexadecimal digit.
@@ -80,20 +80,20 @@ fn push_kind(out: &mut Vec<u8>, ends: bool, kind: Kind) -> Result<(), AllocError
 }
 
 // What is before a place, what is behind it, or both.
-fn push_sides(out: &mut Vec<u8>, left: Kind, right: Kind) -> Result<(), AllocError>
-    ensures { OnOk result (out.new.items ≡ out.old.items ++ sides_text (kind_number left) (kind_number right)) }
+fn push_sides(out: &mut Vec<u8>, sides: Sides) -> Result<(), AllocError>
+    ensures { OnOk result (out.new.items ≡ out.old.items ++ sides_text (kind_number sides.left) (kind_number sides.right)) }
 {
-    if left == Kind::Anything {
+    if sides.left == Kind::Anything {
         out.extend_from_slice(b"behind which ")?;
-        return push_kind(out, false, right);
+        return push_kind(out, false, sides.right);
     }
     out.extend_from_slice(b"before which ")?;
-    push_kind(out, true, left)?;
-    if right == Kind::Anything {
+    push_kind(out, true, sides.left)?;
+    if sides.right == Kind::Anything {
         return Ok(());
     }
     out.extend_from_slice(b", and behind which ")?;
-    push_kind(out, false, right)
+    push_kind(out, false, sides.right)
 }
 
 // Which of the places it is.
@@ -120,15 +120,10 @@ fn push_place(out: &mut Vec<u8>, place: Place) -> Result<(), AllocError>
             push_count(out, n)?;
             out.extend_from_slice(b"end")
         }
-        Place::NthOf {
-            left,
-            right,
-            n,
-            back,
-        } => {
+        Place::NthOf { sides, n, back } => {
             out.extend_from_slice(b"the ")?;
             push_nth(out, n, back)?;
-            push_sides(out, left, right)
+            push_sides(out, sides)
         }
     }
 }

@@ -11,7 +11,7 @@ use crate::expected::Expected;
 use crate::failed::Failed;
 use crate::scan::{Reading, begins_number, expect, read_byte, read_number, strip};
 use crate::words;
-use rules::{Kind, Place};
+use rules::{Kind, Place, Sides};
 
 // What follows the opening quote of a sign.
 #[tactic(auto, unfolding(crate::specs::Reading::read_sign))]
@@ -62,15 +62,8 @@ fn read_behind(left: Kind, n: u8, back: bool, text: &[u8]) -> Reading<'_, Place>
         Some(rest) => read_kind(false, rest)?,
         None => (Kind::Anything, text),
     };
-    Ok((
-        Place::NthOf {
-            left,
-            right,
-            n,
-            back,
-        },
-        rest,
-    ))
+    let sides = Sides { left, right };
+    Ok((Place::NthOf { sides, n, back }, rest))
 }
 
 // What stands before the nth place, behind it, or both.
@@ -84,15 +77,11 @@ fn read_sides(n: u8, back: bool, text: &[u8]) -> Reading<'_, Place>
     }
     let rest = expect(b"behind which ", text, Expected::Side)?;
     let (right, rest) = read_kind(false, rest)?;
-    Ok((
-        Place::NthOf {
-            left: Kind::Anything,
-            right,
-            n,
-            back,
-        },
-        rest,
-    ))
+    let sides = Sides {
+        left: Kind::Anything,
+        right,
+    };
+    Ok((Place::NthOf { sides, n, back }, rest))
 }
 
 // Which way the nth place is counted, and the rest of it.

@@ -33,7 +33,7 @@ KindOf n r = MatchResult r (λ kind. (kind_number kind ≡ n) × (rules.a_kind n
 abbrev pub the_place : Place → places.Place
 the_place (FromFirst n) = places.from_first n
 the_place (FromLast n) = places.from_last n
-the_place (NthOf l r n b) = places.nth_of (kind_number l) (kind_number r) n b
+the_place (NthOf s n b) = places.nth_of (kind_number s.left) (kind_number s.right) n b
 
 abbrev pub the_part : Part → rules.Part
 the_part (Bytes v) = rules.bytes (vec_items v)

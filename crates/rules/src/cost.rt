@@ -1,5 +1,5 @@
 // What a rule costs.
-ghost use Rattle.std.specs.Prelude.{◌≡◌, ◌≤◌, true, ◌==◌};
+ghost use Rattle.std.specs.Prelude.{◌≡◌, ◌+◌, ◌≤◌, true, ◌==◌};
 ghost use Rattle.rules.specs.Lists.{pick};
 ghost use Rattle.rules.specs.Rules.{kind_cost, place_cost, part_cost, cost, a_part, a_rule};
 ghost use Rattle.rules.specs.Values.{kind_number, the_place, the_part, the_parts};
@@ -9,6 +9,7 @@ use crate::kind::Kind;
 use crate::part::Part;
 use crate::place::Place;
 use crate::rule::Rule;
+use crate::sides::Sides;
 
 impl Kind {
     pub fn cost(self) -> u64
@@ -19,6 +20,15 @@ impl Kind {
             Kind::Anything => 0,
             _ => 1,
         }
+    }
+}
+
+impl Sides {
+    fn cost(self) -> u64
+        ensures value { result ≡ kind_cost (kind_number self.left) + kind_cost (kind_number self.right) }
+        ensures bound { result ≤ 2 }
+    {
+        self.left.cost() + self.right.cost()
     }
 }
 
@@ -38,7 +48,7 @@ impl Place {
     {
         match self {
             Place::FromFirst(n) | Place::FromLast(n) => offset_cost(n),
-            Place::NthOf { left, right, n, .. } => 3 + n as u64 + left.cost() + right.cost(),
+            Place::NthOf { sides, n, .. } => 3 + n as u64 + sides.cost(),
         }
     }
 }

@@ -4,6 +4,7 @@ ghost use Rattle.rules.specs.Entry.{FindSays, refusal};
 ghost use Rattle.rules.specs.declared.entry.FindRefusal.TheVariants.{NoKind};
 
 use crate::kind::{Kind, NotAKind};
+use crate::sides::Sides;
 use crate::spot::nth_spot;
 use thiserror::Error;
 
@@ -37,7 +38,9 @@ pub fn find(
     if text.len() > 65535 {
         return Err(FindRefusal::TooLong);
     }
-    let left = Kind::try_from(left)?;
-    let right = Kind::try_from(right)?;
-    Ok(nth_spot(text, left, right, n, back == 1))
+    let sides = Sides {
+        left: Kind::try_from(left)?,
+        right: Kind::try_from(right)?,
+    };
+    Ok(nth_spot(text, sides, n, back == 1))
 }

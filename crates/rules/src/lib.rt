@@ -14,6 +14,7 @@ mod promises;
 mod reading;
 mod room;
 mod rule;
+mod sides;
 mod spelling;
 mod spot;
 mod worked;
@@ -30,5 +31,5 @@ pub use promises::{
 };
 pub use room::{NoRoom, put};
 pub use rule::Rule;
-pub use spot::count_between;
+pub use sides::Sides;
 pub use worked::{worked_refusals, worked_table};

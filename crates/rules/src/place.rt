@@ -6,7 +6,7 @@ ghost use Rattle.rules.specs.Rules.{a_place};
 ghost use Rattle.rules.specs.Values.{kind_number, the_place};
 
 use crate::fault::Fault;
-use crate::kind::Kind;
+use crate::sides::Sides;
 
 #[derive(Clone, Copy, PartialEq, Eq, Debug)]
 pub enum Place {
@@ -14,13 +14,8 @@ pub enum Place {
     FromFirst(u8),
     // So many bytes from the end.
     FromLast(u8),
-    // The nth place, counted from 1, before which stands `left` and behind which stands `right`; from the end if `back`.
-    NthOf {
-        left: Kind,
-        right: Kind,
-        n: u8,
-        back: bool,
-    },
+    // The nth place with these sides, counted from 1; from the end if `back`.
+    NthOf { sides: Sides, n: u8, back: bool },
 }
 
 // Whether a place may have this number.
@@ -33,17 +28,19 @@ fn check_number(n: u8) -> Result<(), Fault>
     Ok(())
 }
 
-// Whether there is an nth place of these kinds.
+// Whether there is an nth place with these sides.
 #[tactic(auto, unfolding(crate::specs::Rules::a_place))]
-fn check_nth(left: Kind, right: Kind, n: u8) -> Result<(), Fault>
-    ensures value { result ≡ checked (nth_fault (kind_number left) (kind_number right) n) }
-    ensures right { (back : Bool) → OnOk result (a_place (nth_of (kind_number left) (kind_number right) n back) ≡ true) }
+fn check_nth(sides: Sides, n: u8) -> Result<(), Fault>
+    ensures value { result ≡ checked (nth_fault (kind_number sides.left) (kind_number sides.right) n) }
+    ensures right { (back : Bool) → OnOk result (a_place (nth_of (kind_number sides.left) (kind_number sides.right) n back) ≡ true) }
 {
-    match (left, right, n) {
-        (Kind::Anything, Kind::Anything, _) => Err(Fault::NoKind),
-        (_, _, 0) => Err(Fault::NthZero),
-        _ => check_number(n),
+    if sides.are_anything() {
+        return Err(Fault::NoKind);
     }
+    if n == 0 {
+        return Err(Fault::NthZero);
+    }
+    check_number(n)
 }
 
 impl Place {
@@ -55,7 +52,7 @@ impl Place {
     {
         match self {
             Place::FromFirst(n) | Place::FromLast(n) => check_number(n),
-            Place::NthOf { left, right, n, .. } => check_nth(left, right, n),
+            Place::NthOf { sides, n, .. } => check_nth(sides, n),
         }
     }
 }

@@ -10,6 +10,7 @@ use crate::kind::Kind;
 use crate::part::{Cut, Part};
 use crate::place::Place;
 use crate::rule::Rule;
+use crate::sides::Sides;
 use std::alloc::Global;
 
 // What was read at the front of some bytes, and the bytes behind it; or what is wrong.
@@ -51,18 +52,12 @@ fn read_nth(bytes: &[u8]) -> Reading<'_, Place>
     let [a, b, c, d, n, back, rest @ ..] = bytes else {
         return Err(Fault::EndsEarly);
     };
-    let left = read_kind(*a, *b)?;
-    let right = read_kind(*c, *d)?;
+    let sides = Sides {
+        left: read_kind(*a, *b)?,
+        right: read_kind(*c, *d)?,
+    };
     let back = read_back(*back)?;
-    Ok((
-        Place::NthOf {
-            left,
-            right,
-            n: *n,
-            back,
-        },
-        rest,
-    ))
+    Ok((Place::NthOf { sides, n: *n, back }, rest))
 }
 
 fn read_place(bytes: &[u8]) -> Reading<'_, Place>

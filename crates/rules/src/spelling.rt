@@ -62,14 +62,9 @@ impl<'a> Writer<'a> {
         match place {
             Place::FromFirst(n) => self.put(&[0, n]),
             Place::FromLast(n) => self.put(&[1, n]),
-            Place::NthOf {
-                left,
-                right,
-                n,
-                back,
-            } => {
-                let [a, b] = u16::from(left).to_be_bytes();
-                let [c, d] = u16::from(right).to_be_bytes();
+            Place::NthOf { sides, n, back } => {
+                let [a, b] = u16::from(sides.left).to_be_bytes();
+                let [c, d] = u16::from(sides.right).to_be_bytes();
                 self.put(&[2, a, b, c, d, n, back as u8]);
             }
         }

@@ -6,10 +6,10 @@ use Rattle.candidates.proofs.TriedInTurn.{Tried}
 use Rattle.candidates.proofs.table.Table.try_between.Given as goal
 
 abbrev pub invariant-loop-n : goal.invariant-loop-n
-invariant-loop-n l = Tried l.question l.fn.self (flat (both_ways (kind_number l.left) (kind_number l.right)) (up_to l.n)) l.self
+invariant-loop-n l = Tried l.question l.fn.self (flat (both_ways (kind_number l.sides.left) (kind_number l.sides.right)) (up_to l.n)) l.self
 
 abbrev pub invariant-loop-back : goal.invariant-loop-back
 invariant-loop-back l =
     Tried l.question l.fn.self
-    (flat (both_ways (kind_number l.left) (kind_number l.right)) (up_to l.n) ++ take l.back-index
-    (both_ways (kind_number l.left) (kind_number l.right) l.n)) l.self
+    (flat (both_ways (kind_number l.sides.left) (kind_number l.sides.right)) (up_to l.n) ++ take l.back-index
+    (both_ways (kind_number l.sides.left) (kind_number l.sides.right) l.n)) l.self
