@@ -1,8 +1,8 @@
 // What a rule costs.
 ghost use Rattle.std.specs.Prelude.{◌≡◌, ◌+◌, ◌≤◌, true, ◌==◌};
 ghost use Rattle.rules.specs.Lists.{pick};
-ghost use Rattle.rules.specs.Rules.{kind_cost, place_cost, part_cost, cost, a_part, a_rule};
-ghost use Rattle.rules.specs.Values.{kind_number, the_place, the_part, the_parts};
+ghost use Rattle.rules.specs.Rules.{kind_cost, place_cost, part_cost, cost, a_part};
+ghost use Rattle.rules.specs.Values.{kind_number, the_place, the_part};
 ghost use Rattle.rules.specs.Held.{the_rule};
 
 use crate::kind::Kind;
@@ -66,22 +66,15 @@ fn part_cost(part: &Part) -> u64
     }
 }
 
-// What parts cost that are a rule.
-fn parts_cost(parts: &[Part]) -> u64
-    requires { a_rule (the_parts parts.now) ≡ true }
-    ensures { result ≡ cost (the_parts parts.now) }
-{
-    let mut total = 0;
-    for part in parts {
-        total += 1 + part_cost(part);
-    }
-    total
-}
-
 impl Rule {
     pub fn cost(&self) -> u64
         ensures { result ≡ cost (the_rule self.now) }
     {
-        parts_cost(self.parts())
+        let parts = self.parts();
+        let mut total = 0;
+        for part in parts {
+            total += 1 + part_cost(part);
+        }
+        total
     }
 }

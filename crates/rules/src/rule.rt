@@ -40,7 +40,8 @@ impl Rule {
     }
 
     pub fn parts(&self) -> &[Part]
-        ensures { result.now ≡ self.now.parts.items }
+        ensures parts { result.now ≡ self.now.parts.items }
+        ensures rule { a_rule (the_parts result.now) ≡ true }
     {
         self.parts.as_slice()
     }

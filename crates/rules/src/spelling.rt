@@ -38,17 +38,19 @@ fn part_length(part: &Part) -> usize
     }
 }
 
-// How many bytes the parts of a rule are spelled with.
-fn parts_length(parts: &[Part]) -> usize
-    requires { a_rule (the_parts parts.now) ≡ true }
-    ensures value { result ≡ length (flat part_spelled (the_parts parts.now)) }
-    ensures bound { result ≤ 528 }
-{
-    let mut total = 0;
-    for part in parts {
-        total += part_length(part);
+impl Rule {
+    // How many bytes the parts are spelled with.
+    fn parts_length(&self) -> usize
+        ensures value { result ≡ length (flat part_spelled (the_rule self.now)) }
+        ensures bound { result ≤ 528 }
+    {
+        let parts = self.parts();
+        let mut total = 0;
+        for part in parts {
+            total += part_length(part);
+        }
+        total
     }
-    total
 }
 
 impl<'a> Writer<'a> {
@@ -107,39 +109,30 @@ impl<'a> Writer<'a> {
     }
 
     // Spells the parts of a rule.
-    fn put_parts(&mut self, parts: &[Part])
-        requires rule { a_rule (the_parts parts.now) ≡ true }
-        requires room { HasRoom (the_writing self.old) (flat part_spelled (the_parts parts.now)) }
+    fn put_parts(&mut self, rule: &Rule)
+        requires { HasRoom (the_writing self.old) (flat part_spelled (the_rule rule.now)) }
         ensures same_reference { self.new.out.ghost_name ≡ self.old.out.ghost_name }
-        ensures wrote { the_writing self.new ≡ wrote (the_writing self.old) (flat part_spelled (the_parts parts.now)) }
+        ensures wrote { the_writing self.new ≡ wrote (the_writing self.old) (flat part_spelled (the_rule rule.now)) }
     {
+        let parts = rule.parts();
         for part in parts {
             self.put_part(part);
         }
     }
 }
 
-// Spells the parts of a rule, with their number in front.
-fn spell_parts(parts: &[Part], out: &mut [u8]) -> Result<usize, NoRoom>
-    requires { a_rule (the_parts parts.now) ≡ true }
-    ensures value { result ≡ written_told (rule_spelled (the_parts parts.now)) (length out.old) }
-    ensures after { out.new ≡ written_left (rule_spelled (the_parts parts.now)) out.old }
-{
-    if out.len() < 1 + parts_length(parts) {
-        return Err(NoRoom);
-    }
-    let mut writer = Writer { out, at: 0 };
-    writer.put(&[parts.len() as u8]);
-    writer.put_parts(parts);
-    Ok(writer.at)
-}
-
 impl Rule {
-    // Spells the rule, and says with how many bytes. Where there is no room, `out` is as it was.
+    // Spells the rule, the number of its parts in front, and says with how many bytes. Where there is no room, `out` is as it was.
     pub fn spelled(&self, out: &mut [u8]) -> Result<usize, NoRoom>
         ensures value { result ≡ written_told (rule_spelled (the_rule self.now)) (length out.old) }
         ensures after { out.new ≡ written_left (rule_spelled (the_rule self.now)) out.old }
     {
-        spell_parts(self.parts(), out)
+        if out.len() < 1 + self.parts_length() {
+            return Err(NoRoom);
+        }
+        let mut writer = Writer { out, at: 0 };
+        writer.put(&[self.parts().len() as u8]);
+        writer.put_parts(self);
+        Ok(writer.at)
     }
 }
