@@ -6,6 +6,7 @@ ghost use Rattle.candidates.specs.Tables.{the_table, Becomes, IsFirstAlike};
 
 use crate::memory::{COST_AT, MOST_ROWS, ROW};
 use crate::row::{Row, lie_alike};
+use crate::rows::Rows;
 use crate::table::Table;
 
 impl<'a> Table<'a> {
@@ -23,7 +24,11 @@ impl<'a> Table<'a> {
         ensures value { result.now ≡ first_chunks 16 self.now.rows self.now.numbers.now }
         ensures len { length result.now ≡ self.now.rows }
     {
-        &self.numbers.as_chunks().0[..self.rows]
+        let rows = Rows {
+            numbers: self.numbers,
+            count: self.rows,
+        };
+        rows.as_rows()
     }
 
     // The first row that lies like another one.

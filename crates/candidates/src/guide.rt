@@ -6,7 +6,7 @@ ghost use Rattle.candidates.specs.Guide.{with_column, columns, laid_columns, gui
 ghost use Rattle.candidates.specs.RowTable.{table_size, most_rows};
 ghost use Rattle.candidates.specs.Tables.{examples_of};
 
-use crate::memory::{COLUMN, GUIDE, MOST_BYTES, MOST_EXAMPLES, POSITIONS};
+use crate::memory::{COLUMN, COST_AT, GUIDE, MOST_BYTES, MOST_EXAMPLES, POSITIONS, POSITIONS_AT};
 use crate::question::Question;
 use crate::rows::Rows;
 use crate::weight::{cut_weight, literal_weight};
@@ -34,8 +34,8 @@ fn least_costs(rows: Rows, e: usize) -> [u64; POSITIONS]
     ensures { result ≡ least_costs rows.entry.numbers.now e rows.entry.count (replicate 65 255) }
 {
     let mut costs = [NO_PLACE; POSITIONS];
-    for row in 0..rows.count {
-        lower(&mut costs, rows.at(row, e), rows.cost(row));
+    for row in rows.as_rows() {
+        lower(&mut costs, row[POSITIONS_AT + e], row[COST_AT]);
     }
     costs
 }

@@ -1,8 +1,10 @@
 // The rows of places, read from the numbers that they lie in.
 ghost use Rattle.std.specs.Prelude.{◌≡◌, ◌+◌, ◌<◌, ◌≤◌, length};
+ghost use Rattle.std.specs.Simd.{first_chunks};
 ghost use Rattle.candidates.specs.RowTable.{row_number, place_says, table_size, most_rows};
 
 use crate::memory::{COST_AT, POSITIONS_AT, ROW};
+use crate::row::Row;
 
 #[derive(Clone, Copy)]
 pub(crate) struct Rows<'a> {
@@ -13,6 +15,14 @@ pub(crate) struct Rows<'a> {
 }
 
 impl<'a> Rows<'a> {
+    // The rows, each as an array.
+    pub fn as_rows(self) -> &'a [Row]
+        ensures value { result.now ≡ first_chunks 16 self.entry.count self.entry.numbers.now }
+        ensures len { length result.now ≡ self.entry.count }
+    {
+        &self.numbers.as_chunks().0[..self.count]
+    }
+
     // The numbers that say the place of a row.
     pub fn place(self, row: usize) -> [u64; 5]
         requires { row < most_rows }
