@@ -4,7 +4,7 @@ ghost use Rattle.candidates.specs.Viewed.{the_view};
 ghost use Rattle.search.specs.Memory.{stepped_by, advanced, loaded, problem_in};
 ghost use Rattle.search.specs.Steps.{held_steps};
 ghost use Rattle.search.specs.Holds.{the_held};
-ghost use Rattle.search.specs.Searched.{lent, the_memory};
+ghost use Rattle.search.specs.Searched.{the_memory, Becomes};
 
 use crate::machine::Machine;
 use crate::search::Search;
@@ -29,8 +29,7 @@ impl Machine {
 impl Search<'_> {
     // Advances the search by so many steps, each of which looks at one candidate at most, and says how far it has come then.
     pub fn advance_by(&mut self, steps: usize) -> Status
-        ensures same_reference { (lent self.new).ghost_name ≡ (lent self.old).ghost_name }
-        ensures memory { the_memory self.new ≡ stepped_by steps (the_memory self.old) }
+        ensures becomes { Becomes self.old self.new (stepped_by steps (the_memory self.old)) }
         ensures status { result ≡ (held_steps (problem_in (the_memory self.old)) steps (loaded (the_memory self.old))).status }
     {
         let seen = self.seen();
@@ -43,8 +42,7 @@ impl Search<'_> {
     // Advances the search by a piece, and says how far it has come then.
     #[tactic(auto, unfolding(crate::specs::Memory::advanced))]
     pub fn advance(&mut self) -> Status
-        ensures same_reference { (lent self.new).ghost_name ≡ (lent self.old).ghost_name }
-        ensures memory { the_memory self.new ≡ advanced (the_memory self.old) }
+        ensures becomes { Becomes self.old self.new (advanced (the_memory self.old)) }
         ensures status { result ≡ (held_steps (problem_in (the_memory self.old)) 64 (loaded (the_memory self.old))).status }
     {
         self.advance_by(PIECE)

@@ -22,7 +22,7 @@ impl<'a> Search<'a> {
     ghost use Rattle.search.specs.Begun.{with_problem};
     ghost use Rattle.search.specs.Holds.{the_held};
     ghost use Rattle.search.specs.Memory.{stored};
-    ghost use Rattle.search.specs.Searched.{lent, the_memory, seen_memory};
+    ghost use Rattle.search.specs.Searched.{lent, the_memory, seen_memory, Becomes};
 
     // The search that lies in this memory, or is to be begun there.
     pub fn over(memory: &'a mut [u64]) -> Search<'a>
@@ -43,16 +43,14 @@ impl<'a> Search<'a> {
     // Lays down the problem of the examples.
     pub(crate) fn lay(&mut self, examples: &[Example])
         requires { small_examples (the_examples examples.now) ≡ true }
-        ensures same_reference { (lent self.new).ghost_name ≡ (lent self.old).ghost_name }
-        ensures memory { the_memory self.new ≡ with_problem (the_examples examples.now) (the_memory self.old) }
+        ensures { Becomes self.old self.new (with_problem (the_examples examples.now) (the_memory self.old)) }
     {
         lay(&mut self.memory[MACHINE..MEMORY], examples, None);
     }
 
     // Lays the machine down.
     pub(crate) fn keep(&mut self, machine: &Machine)
-        ensures same_reference { (lent self.new).ghost_name ≡ (lent self.old).ghost_name }
-        ensures memory { the_memory self.new ≡ stored (the_held machine.now) (the_memory self.old) }
+        ensures { Becomes self.old self.new (stored (the_held machine.now) (the_memory self.old)) }
     {
         machine.store(self.memory);
     }

@@ -3,7 +3,7 @@ ghost use Rattle.std.specs.Prelude.{◌≡◌};
 ghost use Rattle.candidates.specs.Values.{the_examples};
 ghost use Rattle.search.specs.Begun.{begun_in, told_by, left_by};
 ghost use Rattle.search.specs.Refusals.{refusal_of};
-ghost use Rattle.search.specs.Searched.{lent, the_memory};
+ghost use Rattle.search.specs.Searched.{the_memory, Becomes};
 
 use crate::refusal::{Refusal, check_examples};
 use crate::search::Search;
@@ -12,10 +12,9 @@ use candidates::Example;
 impl Search<'_> {
     // Begins a search for the first rule that does the examples. If these are refused, the memory stays as it was.
     pub fn begin(&mut self, examples: &[Example]) -> Result<(), Refusal>
-        ensures same_reference { (lent self.new).ghost_name ≡ (lent self.old).ghost_name }
         ensures told { result ≡ told_by (refusal_of (the_examples examples.now)) }
-        ensures memory { let es = the_examples examples.now in
-            the_memory self.new ≡ left_by (refusal_of es) (begun_in es (the_memory self.old)) (the_memory self.old) }
+        ensures becomes { let es = the_examples examples.now in
+            Becomes self.old self.new (left_by (refusal_of es) (begun_in es (the_memory self.old)) (the_memory self.old)) }
     {
         check_examples(examples)?;
         self.lay(examples);
