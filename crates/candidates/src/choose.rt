@@ -19,13 +19,6 @@ impl<'a> Problem<'a> {
         self.wanted(0).len().saturating_sub(state[0] as usize)
     }
 
-    // How many rows there are.
-    pub fn row_count(self) -> usize
-        ensures { result ≡ (the_view self.entry).rows }
-    {
-        self.rows.count
-    }
-
     // How many cuts there are.
     fn cuts(self) -> usize
         ensures value { result ≡ (the_view self.entry).rows * (the_view self.entry).rows }

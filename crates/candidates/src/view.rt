@@ -27,6 +27,13 @@ impl<'a> Problem<'a> {
         }
     }
 
+    // How many rows there are.
+    pub fn row_count(self) -> usize
+        ensures { result ≡ (the_view self.entry).rows }
+    {
+        self.rows.count
+    }
+
     // The text that lies from a position on, as long as the number at another says.
     fn text(self, long: usize, from: usize) -> &'a [u64]
         requires said { long < 1170 }
