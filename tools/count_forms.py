@@ -60,7 +60,7 @@ def functions(files):
     """Each function: where it is, the names and types of its parameters, its clauses."""
     for name, text in files.items():
         for m in re.finditer(r"^[ ]*(?:pub(?:\(crate\))? )?fn (\w+)", text, re.M):
-            end = re.search(r"\n\s*\{", text[m.start() :])
+            end = re.search(r"\n\s*\{|[^\n]*\{\n", text[m.start() :])
             head = text[m.start() : m.start() + (end.start() if end else 0)]
             if re.search(r"ghost use", head):
                 continue
