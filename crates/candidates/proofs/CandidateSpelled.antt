@@ -1,13 +1,17 @@
 -- How the candidate of a number is spelled, by what it is.
-use Rattle.std.proofs.Common.{◌≡◌, ℕ, ◌+◌, ◌-◌, ◌*◌, ◌/◌, ◌%◌, ◌<◌, ◌≤◌, List, [], length, get_or, take, drop, sym, refl, ap, ◌∙◌, ap₂, arith}
+use Rattle.std.proofs.Common.{◌≡◌, ℕ, ◌+◌, ◌-◌, ◌*◌, ◌/◌, ◌%◌, ◌<◌, ◌≤◌, ◌==◌, List, [], length, get_or, take, drop, sym, refl, ap, ◌∙◌, ap₂, arith, rules, length-append}
 use Rattle.std.proofs.lemmas.Bool.{lt-ltb, le-ltb}
-use Rattle.rules.specs.Answers.{written}
 use Rattle.candidates.specs.Problem.{View, wanted_in, literals_in}
-use Rattle.candidates.specs.Spelled.{literal_spelled, cut_spelled, candidate_spelled}
+use Rattle.candidates.specs.RowTable.{row_number}
+use Rattle.candidates.specs.Spelled.{numbers_spelled, row_spelled, literal_spelled, cut_spelled, candidate_spelled}
 
--- what is written, and where it ends, said of the same bytes by another name
-pub written_as : (out after bs cs : List ℕ) (at end : ℕ) → end ≡ at + length bs → after ≡ written out at bs → bs ≡ cs → (end ≡ at + length cs) × (after ≡ written out at cs)
-written_as out after bs cs at end n e is = (n ∙ ap (λ l. at + length l) is, e ∙ ap (written out at) is)
+-- a place is spelled with up to seven bytes, and so a cut with up to fifteen
+row_bound : (t : List ℕ) (i : ℕ) → length (row_spelled t i) ≤ 7
+unfolding numbers_spelled
+row_bound t i = search rules
+
+pub cut_bound : (v : View) (i k : ℕ) → length (cut_spelled v i k) ≤ 15
+cut_bound v i k = let from = row_bound v.table i in let to = row_bound v.table k in let both = length-append (row_spelled v.table i) (row_spelled v.table k) in omega arith
 
 module _ (v : View) (s : List ℕ) (i : ℕ) where
   pub spelled_literal : i < literals_in v s → candidate_spelled v s i ≡ literal_spelled (take (i + 1) (drop (get_or s 0 0) (wanted_in v 0)))

@@ -10,7 +10,7 @@ use Rattle.rules.specs.declared.part.Part as declared
 use Rattle.rules.proofs.EachElement.{each_append, each_left, each_past}
 use Rattle.rules.proofs.WhatIsMade.{makes_append, with_made_right}
 use Rattle.rules.proofs.WrittenBytes.{wrote_none, room_next, wrote_next}
-use Rattle.rules.specs.Writing.{Writing, wrote, HasRoom}
+use Rattle.rules.specs.Writing.{Writing, unwritten, wrote, HasRoom}
 
 -- what is made by the first parts, i of them, and by the others
 module _ (ps : List declared.Part) (t : List ℕ) where
@@ -70,21 +70,21 @@ front_fits (made a) (made b) room h = let k = length-append a b in omega arith
 -- bytes were made, and these are written from the beginning on
 abbrev pub Written : Made → List ℕ → Writing → Type 0
 Written nothing out w = ⊥
-Written (made bs) out w = w ≡ wrote (record { out = out; at = 0 }) bs
+Written (made bs) out w = w ≡ wrote (unwritten out) bs
 
 -- nothing is written of no parts
-pub none_written : (out : List ℕ) → Written (made []) out (record { out = out; at = 0 })
-none_written out = wrote_none (record { out = out; at = 0 })
+pub none_written : (out : List ℕ) (w : Writing) → w ≡ unwritten out → Written (made []) out w
+none_written out w e = e ∙ wrote_none (unwritten out)
 
 piece_fits : (m : Made) (out : List ℕ) (w : Writing) → Written m out w → (b : List ℕ) → FitsIn (with_made m (made b)) (length out) → HasRoom w b
 unfolding with_made
 piece_fits nothing out w e b h = absurd h
-piece_fits (made a) out w e b h = room_next (record { out = out; at = 0 }) w a b (omega arith) e
+piece_fits (made a) out w e b h = room_next (unwritten out) w a b (omega arith) e
 
 piece_written : (m : Made) (out : List ℕ) (w v : Writing) → Written m out w → (b : List ℕ) → FitsIn (with_made m (made b)) (length out) → v ≡ wrote w b → Written (with_made m (made b)) out v
 unfolding with_made
 piece_written nothing out w v e b h f = absurd h
-piece_written (made a) out w v e b h f = wrote_next (record { out = out; at = 0 }) w v a b (omega arith) e f
+piece_written (made a) out w v e b h f = wrote_next (unwritten out) w v a b (omega arith) e f
 
 left_behind : (m : Made) (out : List ℕ) (w : Writing) → Written m out w → FitsIn m (length out) → w.out ≡ made_left m out
 left_behind nothing out w e h = absurd h

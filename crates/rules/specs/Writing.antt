@@ -11,6 +11,14 @@ pub record Writing : Type 0 where
 abbrev pub the_writing : Writer → Writing
 the_writing w = record { out = w.out.now; at = w.at }
 
+-- which bytes were lent: a writer keeps to the same
+abbrev pub lender : Writer → ℕ
+lender w = w.out.ghost_name
+
+-- lent bytes of which none is written yet
+abbrev pub unwritten : List ℕ → Writing
+unwritten out = record { out = out; at = 0 }
+
 -- the same with bs behind what is written
 abbrev pub wrote : Writing → List ℕ → Writing
 wrote w bs = record { out = written w.out w.at bs; at = w.at + length bs }
@@ -18,3 +26,7 @@ wrote w bs = record { out = written w.out w.at bs; at = w.at + length bs }
 -- and there is room for them
 abbrev pub HasRoom : Writing → List ℕ → Type 0
 HasRoom w bs = w.at + length bs ≤ length w.out
+
+-- there is room for n bytes
+abbrev pub HasRoomFor : Writing → ℕ → Type 0
+HasRoomFor w n = w.at + n ≤ length w.out

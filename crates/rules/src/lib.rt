@@ -29,7 +29,7 @@ pub use promises::{
     no_doubt_means_the_same, no_idle_part, one_first_rule, one_part_less_costs_less,
     parts_make_parts, places_lie_within, spelled_once, what_is_read_is_spelled,
 };
-pub use room::{NoRoom, put};
+pub use room::{NoRoom, Writer};
 pub use rule::Rule;
 pub use sides::Sides;
 pub use worked::{worked_refusals, worked_table};

@@ -25,7 +25,7 @@ fn write_parts(parts: &[Part], text: &[u8], out: &mut [u8])
     requires { FitsIn (makes (the_parts parts.now) text.now) (length out.old) }
     ensures { out.new ≡ made_left (makes (the_parts parts.now) text.now) out.old }
 {
-    let mut writer = Writer { out, at: 0 };
+    let mut writer = Writer::new(out);
     for part in parts {
         if let Some(piece) = part.makes(text) {
             writer.put(piece);

@@ -1,36 +1,43 @@
-// Bytes that are written into lent ones, and the refusal where these are too few.
-ghost use Rattle.std.specs.Prelude.{◌≡◌, ◌+◌, ◌≤◌, length};
-ghost use Rattle.rules.specs.Answers.{written};
+// Bytes that are written into lent ones, one piece after the other; and the refusal where these are too few.
+ghost use Rattle.std.specs.Prelude.{◌≡◌, ◌≤◌, length};
 
 #[derive(Clone, Copy, PartialEq, Eq, Debug)]
 pub struct NoRoom;
 
-// Writes bytes from `at` on.
-pub fn put(out: &mut [u8], at: usize, bytes: &[u8])
-    requires { at + length bytes.now ≤ length out.old }
-    ensures { out.new ≡ written out.old at bytes.now }
-{
-    out[at..at + bytes.len()].copy_from_slice(bytes);
-}
-
-// Lent bytes that are written one piece after the other, and up to where they are.
+// Lent bytes, and up to where they are written.
 #[derive(Drop)]
-pub(crate) struct Writer<'a> {
-    pub(crate) out: &'a mut [u8],
-    pub(crate) at: usize,
+pub struct Writer<'a> {
+    out: &'a mut [u8],
+    at: usize,
     ghost within: { at ≤ length out.now },
 }
 
 impl<'a> Writer<'a> {
-    ghost use Rattle.rules.specs.Writing.{the_writing, wrote, HasRoom};
+    ghost use Rattle.rules.specs.Writing.{the_writing, lender, unwritten, wrote, HasRoom};
+
+    // Writes from the beginning on.
+    pub fn new(out: &'a mut [u8]) -> Writer<'a>
+        ensures same_reference { lender result ≡ out.entry.ghost_name }
+        ensures unwritten { the_writing result ≡ unwritten out.old }
+    {
+        Writer { out, at: 0 }
+    }
+
+    // How many bytes are written.
+    pub fn at(&self) -> usize
+        ensures { result ≡ (the_writing self.now).at }
+    {
+        self.at
+    }
 
     // Writes bytes behind what is written.
-    pub(crate) fn put(&mut self, bytes: &[u8])
+    pub fn put(&mut self, bytes: &[u8])
         requires { HasRoom (the_writing self.old) bytes.now }
-        ensures same_reference { self.new.out.ghost_name ≡ self.old.out.ghost_name }
+        ensures same_reference { lender self.new ≡ lender self.old }
         ensures wrote { the_writing self.new ≡ wrote (the_writing self.old) bytes.now }
     {
-        put(self.out, self.at, bytes);
-        self.at += bytes.len();
+        let Writer { out, at } = self;
+        out[*at..*at + bytes.len()].copy_from_slice(bytes);
+        *at += bytes.len();
     }
 }

@@ -1,20 +1,24 @@
-use Rattle.std.proofs.Common.{◌+◌, ◌≤◌, length, arith}
+use Rattle.std.proofs.Common.{[], ◌∷◌, length, ap, ◌∙◌}
 use Rattle.std.proofs.lemmas.List.{get_or_default}
-use Rattle.rules.proofs.EachElement.{each_length}
+use Rattle.rules.specs.Lists.{each}
+use Rattle.rules.specs.Writing.{the_writing, wrote}
+use Rattle.rules.proofs.WrittenBytes.{room_next, wrote_next}
 use Rattle.candidates.specs.Spelled.{as_byte}
-use Rattle.candidates.proofs.BytesInTurn.{bytes_more, literal_written}
+use Rattle.candidates.proofs.BytesInTurn.{all_bytes, byte_written_too}
 use Rattle.candidates.proofs.spelled.put_literal.Goals as goal
 
-pub loop-i-preserved : goal.loop-i-preserved
-loop-i-preserved c =
-    let room : c.args.at + 2 + length c.args.literal.now ≤ length c.put.new.out = omega (arith, c.requires.room, c.requires.few) in
-    bytes_more c.args.literal.now c.put.new.out (c.args.at + 2) _ c.loop-i.i _ _ _ room c.loop-i.invariant c.loop-i-test.true (get_or_default c.args.literal.now c.loop-i.i _ _ c.loop-i-test.true) (omega arith) c.as_byte.ensures
-
-pub returns : goal.returns
-returns c =
-    let long = each_length as_byte c.args.literal.now in
+pub loop-number-preserved : goal.loop-number-preserved
+loop-number-preserved c =
+    let ns = c.args.literal.now in
+    let room = room_next _ _ (0 ∷ length ns ∷ []) (each as_byte ns) c.requires.room c.put.ensures.wrote in
+    let is = get_or_default ns c.loop-number.number-index _ _ c.loop-number-test.true in
     record {
-      value = omega arith;
-      bound = omega (arith, c.requires.few);
-      after = literal_written c.args.literal.now c.args.out.now _ _ c.args.at c.loop-i.i c.requires.room c.requires.few c.put.ensures c.loop-i.invariant c.loop-i-test.false;
+      same_reference = c.put-in-loop-number.ensures.same_reference ∙ c.loop-number.invariant.same_reference;
+      wrote = byte_written_too ns _ room _ c.loop-number-test.true _ _ _ _ c.loop-number.invariant.wrote c.put-in-loop-number.ensures.wrote is c.as_byte.ensures;
     }
+
+pub returns-clause-wrote : goal.returns-clause-wrote
+returns-clause-wrote c =
+    let ns = c.args.literal.now in
+    wrote_next _ _ _ (0 ∷ length ns ∷ []) (each as_byte ns) c.requires.room c.put.ensures.wrote
+    (c.loop-number.invariant.wrote ∙ ap (wrote (the_writing c.put.new.self)) (all_bytes ns _ c.loop-number-test.false))
