@@ -73,6 +73,7 @@ fn along(room: &mut [u64], from: u64, costs: &[u64], given: &[u8], wanted: &[u8]
     requires costs_small { NoneAbove 255 costs.now }
     ensures { room.new ≡ along from costs.now given.now wanted.now room.old }
 {
+    // By number: of what is written through `iter_mut` in a zip a proof knows only how long it is.
     for (d, cost) in costs[..alike(given, wanted)].iter().enumerate() {
         room[d] = room[d].min(cut_weight(from, *cost));
     }
@@ -189,6 +190,7 @@ impl<'a> CostedExample<'a> {
     {
         let end = COLUMN * self.wanted.len();
         put_column(out, end, [0; COLUMN]);
+        // By number, since j is where the wanted text is cut, and where its column lies.
         for j in (0..self.wanted.len()).rev() {
             let at = COLUMN * j;
             let column = self.wanted_from(j).column(&out[at + COLUMN..end + COLUMN]);
@@ -207,6 +209,7 @@ pub(crate) fn lay_guides(
     requires costs_small { (e : ℕ) → e < 8 → NoneAbove 255 (slice_index_or costs.now e []) }
     ensures { out.new ≡ guides_laid costs.now (examples_of question.entry) (length question.entry.examples.now) out.old }
 {
+    // By number, since e is where the guide lies in lent memory.
     for (e, example) in question.examples.iter().enumerate() {
         let costed = CostedExample {
             costs: &costs[e],

@@ -27,6 +27,8 @@ fn next_position(piece: &[u64], wanted: &[u64], at: u64) -> Option<u64>
     rest.starts_with(piece).then_some(at + piece.len() as u64)
 }
 
+// Examples and rows go by their numbers, as in lent memory. A type for a number below eight would be taken apart at each index, and each function says in a
+// clause what its numbers are below.
 impl<'a> Problem<'a> {
     // What the cut by two rows makes of an example.
     fn middle(self, from: usize, to: usize, e: usize) -> Option<&'a [u64]>
@@ -68,6 +70,7 @@ impl<'a> Problem<'a> {
         ensures { result ≡ moved_by (the_view self.entry) (pieces (the_view self.entry) candidate.entry) state.now }
     {
         let mut next = *state;
+        // By number: examples lie in lent memory, and what is written through `iter_mut` in a zip a proof doesn't know.
         for e in 0..self.examples {
             next[e] = self.next(candidate, e, state[e])?;
         }

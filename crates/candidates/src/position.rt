@@ -18,6 +18,7 @@ impl<'a> Question<'a> {
         ensures { IfThere (examples_of self.entry) (the_place place) result (positions_in (examples_of self.entry) 8 (the_place place)) }
     {
         let mut at = [0u64; 8];
+        // By number: a chain that fails where a place is missing says nothing of what it collects.
         for (e, example) in self.examples.iter().enumerate() {
             at[e] = place.spot(example.given)? as u64;
         }
@@ -28,10 +29,9 @@ impl<'a> Question<'a> {
     pub(crate) fn asked_position(self, place: Place) -> u64
         ensures { result ≡ asked_position (asked_of self.entry) (the_place place) }
     {
-        match self.asked {
-            Some(text) => place.spot(text).map_or(MISSING, |at| at as u64),
-            None => 0,
-        }
+        self.asked.map_or(0, |text| {
+            place.spot(text).map_or(MISSING, |at| at as u64)
+        })
     }
 
     // The given text of the first example.

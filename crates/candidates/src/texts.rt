@@ -14,6 +14,7 @@ fn put_text(out: &mut [u64], at: usize, text: &[u8])
     requires room { at + length text.now ≤ length out.old }
     ensures { out.new ≡ with_text out.old at text.now }
 {
+    // By number: of what is written through `iter_mut` in a zip a proof knows only how long it is.
     for (i, byte) in text.iter().enumerate() {
         out[at + i] = *byte as u64;
     }
@@ -37,6 +38,7 @@ pub(crate) fn lay_texts(out: &mut [u64], question: Question)
     requires size { length out.old ≡ 1170 }
     ensures { out.new ≡ texts_laid (examples_of question.entry) (length question.entry.examples.now) out.old }
 {
+    // By number, since e is where the texts lie in lent memory.
     for (e, example) in question.examples.iter().enumerate() {
         put_example(out, e, example);
     }

@@ -17,6 +17,7 @@ pub enum FindRefusal {
     NoKind,
 }
 
+// By hand, since the contract of `find` reads `from_gives`.
 impl From<NotAKind> for FindRefusal {
     ghost from_gives = { λ _ r. r ≡ NoKind };
 

@@ -5,8 +5,9 @@ ghost use Rattle.rules.specs.Values.{kind_number, IsNumberOf, KindOf};
 
 use thiserror::Error;
 
-#[derive(Clone, Copy, PartialEq, Eq, Debug)]
+#[derive(Clone, Copy, PartialEq, Eq, Debug, Default)]
 pub enum Kind {
+    #[default]
     Anything,
     Digits,
     Letters,

@@ -98,6 +98,7 @@ impl Machine {
             self.depth as u64,
         ];
         memory[..HEAD].copy_from_slice(&head);
+        // By number, since i is where the frame lies in lent memory.
         for (i, frame) in self.frames.iter().enumerate() {
             frame.put(memory, HEAD + FRAME * i);
         }

@@ -7,5 +7,5 @@ use Rattle.candidates.proofs.table.Table.fill.Goals as goal
 
 pub returns : goal.returns
 returns c =
-    let kinds = ap (each kind_number) c.as_slice.ensures ∙ c.kinds_in-kinds.ensures ∙ ap kinds_in c.first_given.ensures in
+    let kinds = ap (each kind_number) c.as_slice.ensures.value ∙ c.kinds_in-kinds.ensures ∙ ap kinds_in c.first_given.ensures in
     all_places c.args.question _ _ _ _ _ kinds c.try_counted.ensures c.try_kinds.ensures
