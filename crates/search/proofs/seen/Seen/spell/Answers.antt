@@ -1,12 +1,10 @@
-use Rattle.std.proofs.Common.{arith}
-use Rattle.candidates.specs.Viewed.{the_view}
-use Rattle.search.specs.Holds.{the_held}
-use Rattle.search.proofs.PartsInTurn.{rule_put}
+use Rattle.std.proofs.Common.{length, ap₂, ◌∙◌}
+use Rattle.rules.specs.Answers.{written}
+use Rattle.search.specs.Spelled.{spelled_in}
 use Rattle.search.proofs.seen.Seen.spell.Goals as goal
 
-pub returns : goal.returns
-returns c =
-    let both =
-    rule_put (the_view c.problem.result) _ (the_held c.machine-machine.result) _ c.args.out.now _ _ _ (omega (arith, c.requires))
-    c.problem.ensures c.machine-machine.ensures c.put.ensures c.put_parts.ensures.after c.put_parts.ensures.value in
-    record { value = both.0; bound = c.put_parts.ensures.bound; after = both.1 }
+pub returns-clause-value : goal.returns-clause-value
+returns-clause-value c = c.spell.ensures.value ∙ ap₂ (λ v x. length (spelled_in v x)) c.problem.ensures c.machine.ensures
+
+pub returns-clause-after : goal.returns-clause-after
+returns-clause-after c = c.spell.ensures.after ∙ ap₂ (λ v x. written c.args.out.now 0 (spelled_in v x)) c.problem.ensures c.machine.ensures
