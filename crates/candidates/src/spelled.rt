@@ -1,6 +1,6 @@
 // A candidate is spelled into lent bytes, by the numbers that lie in memory. Crate `rules` spells places; these numbers need not say one.
 ghost use Rattle.std.specs.Prelude.{◌≡◌, ◌+◌, ◌<◌, ◌≤◌, length};
-ghost use Rattle.rules.specs.Writing.{the_writing, lender, wrote, HasRoom, HasRoomFor};
+ghost use Rattle.rules.specs.Writing.{the_writing, Writes, HasRoom, HasRoomFor};
 ghost use Rattle.candidates.specs.RowTable.{most_rows};
 ghost use Rattle.candidates.specs.Spelled.{as_byte, literal_spelled, row_spelled, cut_spelled, candidate_spelled};
 ghost use Rattle.candidates.specs.Viewed.{the_view};
@@ -20,8 +20,7 @@ fn as_byte(number: u64) -> u8
 fn put_literal(literal: &[u64], writer: &mut Writer)
     requires few { length literal.now ≤ 64 }
     requires room { HasRoom (the_writing writer.old) (literal_spelled literal.now) }
-    ensures same_reference { lender writer.new ≡ lender writer.old }
-    ensures wrote { the_writing writer.new ≡ wrote (the_writing writer.old) (literal_spelled literal.now) }
+    ensures { Writes writer.old writer.new (literal_spelled literal.now) }
 {
     writer.put(&[0, literal.len() as u8]);
     for number in literal {
@@ -35,8 +34,7 @@ impl<'a> Problem<'a> {
     fn put_place(self, row: usize, writer: &mut Writer)
         requires row { row < most_rows }
         requires room { HasRoom (the_writing writer.old) (row_spelled (the_view self).table row) }
-        ensures same_reference { lender writer.new ≡ lender writer.old }
-        ensures wrote { the_writing writer.new ≡ wrote (the_writing writer.old) (row_spelled (the_view self.entry).table row) }
+        ensures { Writes writer.old writer.new (row_spelled (the_view self.entry).table row) }
     {
         let [tag, left, right, n, back] = self.rows.place(row);
         match tag {
@@ -58,8 +56,7 @@ impl<'a> Problem<'a> {
         requires from { from < most_rows }
         requires to { to < most_rows }
         requires room { HasRoom (the_writing writer.old) (cut_spelled (the_view self) from to) }
-        ensures same_reference { lender writer.new ≡ lender writer.old }
-        ensures wrote { the_writing writer.new ≡ wrote (the_writing writer.old) (cut_spelled (the_view self.entry) from to) }
+        ensures { Writes writer.old writer.new (cut_spelled (the_view self.entry) from to) }
     {
         writer.put(&[1]);
         self.put_place(from, writer);
@@ -69,8 +66,7 @@ impl<'a> Problem<'a> {
     // Spells the candidate of a number; where there is none of this number, nothing is written.
     pub fn put_candidate(self, state: &[u64; 9], index: usize, writer: &mut Writer)
         requires { HasRoomFor (the_writing writer.old) 66 }
-        ensures same_reference { lender writer.new ≡ lender writer.old }
-        ensures wrote { the_writing writer.new ≡ wrote (the_writing writer.old) (candidate_spelled (the_view self.entry) state.now index) }
+        ensures writes { Writes writer.old writer.new (candidate_spelled (the_view self.entry) state.now index) }
         ensures bound { (the_writing writer.new).at ≤ (the_writing writer.old).at + 66 }
     {
         if index >= self.count(state) {

@@ -1,5 +1,5 @@
 -- Lent bytes that are written piece by piece. Assumes nothing: these are definitions.
-use Rattle.std.specs.Prelude.{ℕ, ◌+◌, ◌≤◌, List, length}
+use Rattle.std.specs.Prelude.{◌≡◌, ℕ, ◌+◌, ◌≤◌, List, length}
 use Rattle.rules.specs.Answers.{written}
 use Rattle.rules.specs.declared.room.Writer.{Writer}
 
@@ -23,7 +23,12 @@ unwritten out = record { out = out; at = 0 }
 abbrev pub wrote : Writing → List ℕ → Writing
 wrote w bs = record { out = written w.out w.at bs; at = w.at + length bs }
 
--- and there is room for them
+-- a writer becomes one over the same lent bytes, with bs behind what was written
+pub record Writes (was now : Writer) (bs : List ℕ) : Type 0 where
+  pub same_reference : lender now ≡ lender was
+  pub wrote : the_writing now ≡ wrote (the_writing was) bs
+
+-- there is room for bs behind what is written
 abbrev pub HasRoom : Writing → List ℕ → Type 0
 HasRoom w bs = w.at + length bs ≤ length w.out
 

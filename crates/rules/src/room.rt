@@ -13,7 +13,7 @@ pub struct Writer<'a> {
 }
 
 impl<'a> Writer<'a> {
-    ghost use Rattle.rules.specs.Writing.{the_writing, lender, unwritten, wrote, HasRoom};
+    ghost use Rattle.rules.specs.Writing.{the_writing, lender, unwritten, Writes, HasRoom};
 
     // Writes from the beginning on.
     pub fn new(out: &'a mut [u8]) -> Writer<'a>
@@ -33,8 +33,7 @@ impl<'a> Writer<'a> {
     // Writes bytes behind what is written.
     pub fn put(&mut self, bytes: &[u8])
         requires { HasRoom (the_writing self.old) bytes.now }
-        ensures same_reference { lender self.new ≡ lender self.old }
-        ensures wrote { the_writing self.new ≡ wrote (the_writing self.old) bytes.now }
+        ensures { Writes self.old self.new bytes.now }
     {
         let Writer { out, at } = self;
         out[*at..*at + bytes.len()].copy_from_slice(bytes);

@@ -6,7 +6,7 @@ ghost use Rattle.rules.specs.Order.{place_spelled, part_spelled, rule_spelled};
 ghost use Rattle.rules.specs.Rules.{bytes, cut, a_part, a_rule};
 ghost use Rattle.rules.specs.Values.{the_place, the_part, the_parts};
 ghost use Rattle.rules.specs.Held.{the_rule};
-ghost use Rattle.rules.specs.Writing.{the_writing, lender, wrote, HasRoom};
+ghost use Rattle.rules.specs.Writing.{the_writing, Writes, HasRoom};
 
 use crate::part::{Cut, Part};
 use crate::place::Place;
@@ -58,8 +58,7 @@ impl<'a> Writer<'a> {
     #[tactic(auto, unfolding(crate::specs::Order::place_spelled))]
     fn put_place(&mut self, place: Place)
         requires { HasRoom (the_writing self.old) (place_spelled (the_place place)) }
-        ensures same_reference { lender self.new ≡ lender self.old }
-        ensures wrote { the_writing self.new ≡ wrote (the_writing self.old) (place_spelled (the_place place)) }
+        ensures { Writes self.old self.new (place_spelled (the_place place)) }
     {
         match place {
             Place::FromFirst(n) => self.put(&[0, n]),
@@ -76,8 +75,7 @@ impl<'a> Writer<'a> {
     fn put_literal(&mut self, literal: &[u8])
         requires few { length literal.now ≤ 64 }
         requires room { HasRoom (the_writing self.old) (part_spelled (bytes literal.now)) }
-        ensures same_reference { lender self.new ≡ lender self.old }
-        ensures wrote { the_writing self.new ≡ wrote (the_writing self.old) (part_spelled (bytes literal.now)) }
+        ensures { Writes self.old self.new (part_spelled (bytes literal.now)) }
     {
         self.put(&[0, literal.len() as u8]);
         self.put(literal);
@@ -86,8 +84,7 @@ impl<'a> Writer<'a> {
     // Spells a cut.
     fn put_cut(&mut self, pair: Cut)
         requires { HasRoom (the_writing self.old) (part_spelled (cut (the_place pair.from) (the_place pair.to))) }
-        ensures same_reference { lender self.new ≡ lender self.old }
-        ensures wrote { the_writing self.new ≡ wrote (the_writing self.old) (part_spelled (cut (the_place pair.from) (the_place pair.to))) }
+        ensures { Writes self.old self.new (part_spelled (cut (the_place pair.from) (the_place pair.to))) }
     {
         self.put(&[1]);
         self.put_place(pair.from);
@@ -99,8 +96,7 @@ impl<'a> Writer<'a> {
     fn put_part(&mut self, part: &Part)
         requires part { a_part (the_part part.now) ≡ true }
         requires room { HasRoom (the_writing self.old) (part_spelled (the_part part.now)) }
-        ensures same_reference { lender self.new ≡ lender self.old }
-        ensures wrote { the_writing self.new ≡ wrote (the_writing self.old) (part_spelled (the_part part.now)) }
+        ensures { Writes self.old self.new (part_spelled (the_part part.now)) }
     {
         match part {
             Part::Bytes(literal) => self.put_literal(literal),
@@ -111,8 +107,7 @@ impl<'a> Writer<'a> {
     // Spells the parts of a rule.
     fn put_parts(&mut self, rule: &Rule)
         requires { HasRoom (the_writing self.old) (flat part_spelled (the_rule rule.now)) }
-        ensures same_reference { lender self.new ≡ lender self.old }
-        ensures wrote { the_writing self.new ≡ wrote (the_writing self.old) (flat part_spelled (the_rule rule.now)) }
+        ensures { Writes self.old self.new (flat part_spelled (the_rule rule.now)) }
     {
         let parts = rule.parts();
         for part in parts {

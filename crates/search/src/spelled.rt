@@ -1,7 +1,7 @@
 // The rule that a search has found is spelled into lent bytes.
 ghost use Rattle.std.specs.Prelude.{◌≡◌, ◌+◌, ◌≤◌, length};
 ghost use Rattle.rules.specs.Answers.{written};
-ghost use Rattle.rules.specs.Writing.{the_writing, lender, wrote, HasRoomFor};
+ghost use Rattle.rules.specs.Writing.{the_writing, Writes, HasRoomFor};
 ghost use Rattle.candidates.specs.Viewed.{the_view};
 ghost use Rattle.search.specs.Holds.{the_held};
 ghost use Rattle.search.specs.Memory.{loaded, problem_in};
@@ -17,8 +17,7 @@ impl Machine {
     // Spells the parts that the frames in use have chosen.
     fn put_parts(&self, problem: Problem, writer: &mut Writer)
         requires { HasRoomFor (the_writing writer.old) 528 }
-        ensures same_reference { lender writer.new ≡ lender writer.old }
-        ensures wrote { the_writing writer.new ≡ wrote (the_writing writer.old) (frames_spelled (the_view problem.entry) self.now.depth self.now.frames) }
+        ensures writes { Writes writer.old writer.new (frames_spelled (the_view problem.entry) self.now.depth self.now.frames) }
         ensures bound { (the_writing writer.new).at ≤ (the_writing writer.old).at + 528 }
     {
         for frame in &self.frames[..self.depth] {

@@ -17,8 +17,11 @@ loop-number-preserved c =
       wrote = byte_written_too ns _ room _ c.loop-number-test.true _ _ _ _ c.loop-number.invariant.wrote c.put-in-loop-number.ensures.wrote is c.as_byte.ensures;
     }
 
-pub returns-clause-wrote : goal.returns-clause-wrote
-returns-clause-wrote c =
+pub returns : goal.returns
+returns c =
     let ns = c.args.literal.now in
-    wrote_next _ _ _ (0 ∷ length ns ∷ []) (each as_byte ns) c.requires.room c.put.ensures.wrote
-    (c.loop-number.invariant.wrote ∙ ap (wrote (the_writing c.put.new.self)) (all_bytes ns _ c.loop-number-test.false))
+    record {
+      same_reference = c.loop-number.invariant.same_reference ∙ c.put.ensures.same_reference;
+      wrote = wrote_next _ _ _ (0 ∷ length ns ∷ []) (each as_byte ns) c.requires.room c.put.ensures.wrote
+          (c.loop-number.invariant.wrote ∙ ap (wrote (the_writing c.put.new.self)) (all_bytes ns _ c.loop-number-test.false));
+    }

@@ -1,4 +1,4 @@
-use Rattle.std.proofs.Common.{[], ◌∷◌, ◌++◌}
+use Rattle.std.proofs.Common.{[], ◌∷◌, ◌++◌, ◌∙◌}
 use Rattle.rules.specs.Order.{place_spelled, part_spelled}
 use Rattle.rules.specs.Values.{the_place}
 use Rattle.rules.proofs.WrittenBytes.{room_first, room_next, wrote_next}
@@ -22,10 +22,13 @@ put_place-requires-2 c =
     let to = place_spelled (the_place c.args.pair.to) in
     room_next _ _ from to (room_next _ _ (1 ∷ []) (from ++ to) c.requires c.put.ensures.wrote) c.put_place.ensures.wrote
 
-pub returns-clause-wrote : goal.returns-clause-wrote
+pub returns : goal.returns
 unfolding part_spelled
-returns-clause-wrote c =
+returns c =
     let from = place_spelled (the_place c.args.pair.from) in
     let to = place_spelled (the_place c.args.pair.to) in
     let room = room_next _ _ (1 ∷ []) (from ++ to) c.requires c.put.ensures.wrote in
-    wrote_next _ _ _ (1 ∷ []) (from ++ to) c.requires c.put.ensures.wrote (wrote_next _ _ _ from to room c.put_place.ensures.wrote c.put_place-2.ensures.wrote)
+    record {
+      same_reference = c.put_place-2.ensures.same_reference ∙ c.put_place.ensures.same_reference ∙ c.put.ensures.same_reference;
+      wrote = wrote_next _ _ _ (1 ∷ []) (from ++ to) c.requires c.put.ensures.wrote (wrote_next _ _ _ from to room c.put_place.ensures.wrote c.put_place-2.ensures.wrote);
+    }

@@ -20,7 +20,7 @@ loop-frame-preserved c =
     let few : i < 8 = let most = c.args.self.now.few in omega arith in
     let frame : Frame = get_or (take depth frames) i no_frame in
     record {
-      same_reference = put.same_reference ∙ so.same_reference;
-      wrote = part_put_too (the_view c.args.problem) frames _ c.requires i few _ so.wrote so.bound _ frame _ (get_or-take depth frames i no_frame used) c.saturating_sub-chosen.ensures put.wrote put.bound;
+      same_reference = put.writes.same_reference ∙ so.same_reference;
+      wrote = part_put_too (the_view c.args.problem) frames _ c.requires i few _ so.wrote so.bound _ frame _ (get_or-take depth frames i no_frame used) c.saturating_sub-chosen.ensures put.writes.wrote put.bound;
       bound = let one = put.bound in let all = so.bound in omega arith;
     }
