@@ -41,21 +41,21 @@ fn behind_is(text: &[u8], kind: Kind, at: usize) -> bool
 }
 
 impl Sides {
-    // Whether there is anything on both sides: no rule has an nth place of these.
+    // Whether both are `Anything`: no rule has an nth place with these sides.
     pub fn are_anything(self) -> bool
         ensures { result ≡ (kind_number self.left + kind_number self.right == 0) }
     {
         self.left == Kind::Anything && self.right == Kind::Anything
     }
 
-    // Whether they stand before this place and behind it.
+    // Whether the left one stands before this place, and the right one behind it.
     pub(crate) fn is_at(self, text: &[u8], at: usize) -> bool
         ensures { result ≡ (before_is text.now (kind_number self.left) at && behind_is text.now (kind_number self.right) at) }
     {
         before_is(text, self.left, at) && behind_is(text, self.right, at)
     }
 
-    // How many places they stand before and behind.
+    // How many places there are with these sides.
     pub fn count_in(self, text: &[u8]) -> usize
         ensures { result ≡ length (all_of text.now (kind_number self.left) (kind_number self.right)) }
     {
