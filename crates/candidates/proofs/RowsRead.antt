@@ -1,14 +1,14 @@
 -- The rows of a table, read as arrays of 16 numbers: what one of them holds, and the first that lies like another.
-use Rattle.std.proofs.Common.{◌≡◌, ℕ, zero, suc, ◌+◌, ◌*◌, ◌<◌, ◌≤◌, Bool, true, false, cond, not, eqb, ltb, ◌⊎◌, List, ◌∷◌, length, get_or, take, drop, Some, None, Option, Decides, sym, refl, ap, ◌∙◌, subst, ap₂, inl, inr, arith, length-drop}
+use Rattle.std.proofs.Common.{◌≡◌, ℕ, zero, suc, ◌+◌, ◌*◌, ◌<◌, ◌≤◌, Bool, true, false, cond, not, eqb, ltb, ◌⊎◌, List, ◌∷◌, length, get_or, take, drop, Some, None, Option, sym, refl, ap, ◌∙◌, subst, ap₂, inl, inr, arith, length-drop}
 use Rattle.std.specs.List.{position, position_or_len}
 use Rattle.std.specs.Cmp.Lexicographic.{pointwise}
 use Rattle.std.specs.Simd.{first_chunks}
 use Rattle.std.proofs.lemmas.List.{drop-drop, take_all, get_or-take, get_or-drop}
-use Rattle.std.proofs.lemmas.Slice.Eq.{compares_Decides, slice_eq-Decides}
+use Rattle.std.proofs.lemmas.Slice.Eq.{slice_eq-Decides}
 use Rattle.std.proofs.lemmas.Bool.{lt-ltb, le-ltb, cases_lt}
 use Rattle.std.proofs.lemmas.List.Sums.{prefix_len-le-length}
 use Rattle.std.proofs.lemmas.Bool.Decides.{same_from_decides, Decides-eqb}
-use Rattle.rules.specs.Lists.{pick, same}
+use Rattle.rules.specs.Lists.{pick}
 use Rattle.candidates.specs.RowTable.{row_at, row_number, alike, alike_at}
 use Rattle.candidates.specs.Tables.{IsFirstAlike}
 use Rattle.candidates.proofs.SameNumbers.{same_decides}

@@ -25,6 +25,7 @@ impl Machine {
             problem.put_candidate(&frame.state, chosen, writer);
         }
     }
+
     // Spells the rule of these parts, and says with how many bytes.
     fn spell(&self, problem: Problem, out: &mut [u8]) -> usize
         requires { 529 ≤ length out.old }

@@ -1,4 +1,4 @@
-use Rattle.std.proofs.Common.{take, sym, refl, ap, ◌∙◌, arith}
+use Rattle.std.proofs.Common.{sym, ap, ◌∙◌, arith}
 use Rattle.candidates.proofs.KindsCollected.{collected_none, collected_more, collected_absent, collected_none_there, collected_all}
 use Rattle.candidates.proofs.kinds.kinds_in.Goals as goal
 use Rattle.candidates.proofs.kinds.kinds_in.Goals.{in-Ok+then-stands_in, in-Ok+else-stands_in, in_default}
