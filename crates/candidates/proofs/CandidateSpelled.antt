@@ -1,8 +1,7 @@
 -- How the candidate of a number is spelled, by what it is.
-use Rattle.std.proofs.Common.{◌≡◌, ℕ, ◌+◌, ◌-◌, ◌*◌, ◌/◌, ◌%◌, ◌<◌, ◌≤◌, ◌==◌, List, [], length, get_or, take, drop, sym, refl, ap, ◌∙◌, ap₂, arith, rules, length-append}
+use Rattle.std.proofs.Common.{◌≡◌, ℕ, ◌+◌, ◌-◌, ◌*◌, ◌/◌, ◌%◌, ◌<◌, ◌≤◌, List, [], length, get_or, take, drop, sym, refl, ap, ◌∙◌, ap₂, arith, rules, length-append}
 use Rattle.std.proofs.lemmas.Bool.{lt-ltb, le-ltb}
 use Rattle.candidates.specs.Problem.{View, wanted_in, literals_in}
-use Rattle.candidates.specs.RowTable.{row_number}
 use Rattle.candidates.specs.Spelled.{numbers_spelled, row_spelled, literal_spelled, cut_spelled, candidate_spelled}
 
 -- a place is spelled with up to seven bytes, and so a cut with up to fifteen

@@ -1,11 +1,11 @@
 -- Going through the frames in use spells the parts that they have chosen.
-use Rattle.std.proofs.Common.{◌≡◌, ℕ, ◌+◌, ◌-◌, ◌*◌, ◌<◌, ◌≤◌, List, [], ◌∷◌, ◌++◌, length, get_or, sym, refl, ap, ◌∙◌, add-one, arith, length-append}
-use Rattle.rules.specs.Writing.{Writing, unwritten, wrote, HasRoom, HasRoomFor}
+use Rattle.std.proofs.Common.{◌≡◌, ℕ, ◌+◌, ◌-◌, ◌*◌, ◌<◌, ◌≤◌, List, ◌++◌, get_or, sym, ap, ◌∙◌, add-one, arith, length-append}
+use Rattle.rules.specs.Writing.{Writing, wrote, HasRoom, HasRoomFor}
 use Rattle.rules.proofs.WrittenBytes.{wrote_none, wrote_next}
 use Rattle.candidates.specs.Problem.{View}
 use Rattle.candidates.specs.Spelled.{candidate_spelled}
-use Rattle.search.specs.Steps.{Held, no_frame}
-use Rattle.search.specs.Spelled.{frame_spelled, frames_spelled, spelled_in}
+use Rattle.search.specs.Steps.{no_frame}
+use Rattle.search.specs.Spelled.{frame_spelled, frames_spelled}
 use Rattle.search.specs.declared.frame.Frame.{Frame}
 
 module _ (v : View) (fs : List Frame) where
