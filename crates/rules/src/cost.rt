@@ -53,7 +53,8 @@ impl Place {
     }
 }
 
-// What a part costs that is one.
+// What a part costs that is one. A part alone may be any, since parts are made before it is known that they are within limits; so it is asked, here and
+// where parts are spelled.
 #[tactic(auto, using(crate::proofs::SumOverParts::literal_few), unfolding(crate::specs::Rules::part_cost))]
 fn part_cost(part: &Part) -> u64
     requires { a_part (the_part part.now) ≡ true }
