@@ -1,4 +1,4 @@
-use Rattle.std.proofs.Common.{◌<◌, get_or, take, refl, ◌∙◌, arith, length-take}
+use Rattle.std.proofs.Common.{◌≡◌, ◌-◌, ◌<◌, get_or, take, refl, ◌∙◌, arith, length-take}
 use Rattle.std.proofs.lemmas.List.{get_or-take}
 use Rattle.candidates.specs.Viewed.{the_view}
 use Rattle.search.specs.Steps.{no_frame}
@@ -19,8 +19,9 @@ loop-frame-preserved c =
     let used : i < depth = omega (arith, length-take depth frames, c.loop-frame-test.true) in
     let few : i < 8 = let most = c.args.self.now.few in omega arith in
     let frame : Frame = get_or (take depth frames) i no_frame in
+    let chosen : c.saturating_sub-chosen.result ≡ frame.index - 1 = omega (arith, c.saturating_sub-chosen.ensures) in
     record {
       same_reference = put.writes.same_reference ∙ so.same_reference;
-      wrote = part_put_too (the_view c.args.problem) frames _ c.requires i few _ so.wrote so.bound _ frame _ (get_or-take depth frames i no_frame used) c.saturating_sub-chosen.ensures put.writes.wrote put.bound;
+      wrote = part_put_too (the_view c.args.problem) frames _ c.requires i few _ so.wrote so.bound _ frame _ (get_or-take depth frames i no_frame used) chosen put.writes.wrote put.bound;
       bound = let one = put.bound in let all = so.bound in omega arith;
     }
