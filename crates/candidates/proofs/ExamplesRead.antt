@@ -5,8 +5,8 @@ use Rattle.rules.specs.Lists.{every}
 use Rattle.rules.proofs.EachElement.{each_length}
 use Rattle.candidates.specs.declared.example.Example.{Example}
 use Rattle.candidates.specs.Values.{the_example, the_examples}
-use Rattle.candidates.specs.Rows.{small_examples, short_example, given_of, wanted_of}
-use Rattle.candidates.proofs.SmallExamples.{small_few, short_at}
+use Rattle.candidates.specs.Rows.{short_example, given_of, wanted_of}
+use Rattle.candidates.proofs.SmallExamples.{short_at}
 
 pub given_read : (xs : List Example) (e : ℕ) (d : Example) → e < length xs → given_of (the_examples xs) e ≡ (get_or xs e d).given.now
 given_read [] e d h = absurd (omega arith)
@@ -30,7 +30,3 @@ pub example_short : (xs : List Example) (e : ℕ) (d : Example) → e < length x
 example_short [] e d h all = absurd (omega arith)
 example_short (x ∷ xs) zero d h all = (and_parts (short_example (the_example x)) (every short_example (the_examples xs)) all).0
 example_short (x ∷ xs) (suc e) d h all = example_short xs e d (omega arith) (and_parts (short_example (the_example x)) (every short_example (the_examples xs)) all).1
-
--- small examples are few
-pub few_read : (xs : List Example) → small_examples (the_examples xs) ≡ true → length xs ≤ 8
-few_read xs h = omega (arith, small_few (the_examples xs) h, each_length the_example xs)

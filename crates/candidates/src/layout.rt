@@ -8,7 +8,7 @@ ghost use Rattle.candidates.specs.Values.{the_examples, the_asked};
 
 use crate::example::Example;
 use crate::guide::{all_costs, lay_guides};
-use crate::memory::{GUIDES_AT, ROWS_AT, TEXTS_AT};
+use crate::memory::{EXAMPLE_COUNT_AT, GUIDES_AT, ROWS_AT, ROW_COUNT_AT, TEXTS_AT};
 use crate::question::Question;
 use crate::texts::lay_texts;
 use crate::walk::lay_rows;
@@ -27,6 +27,6 @@ pub fn lay(numbers: &mut [u64], examples: &[Example], asked: Option<&[u8]>)
     lay_texts(texts, question);
     let rows = lay_rows(table, question);
     lay_guides(guide, &all_costs(table, rows), question);
-    head[0] = examples.len() as u64;
-    head[1] = rows as u64;
+    head[EXAMPLE_COUNT_AT] = examples.len() as u64;
+    head[ROW_COUNT_AT] = rows as u64;
 }

@@ -1,7 +1,7 @@
 // A look at a candidate part: where it leads from a state, and what it weighs. Given and wanted texts are gone through side by side.
-ghost use Rattle.std.specs.Prelude.{◌≡◌, ◌+◌, ◌<◌, ◌≤◌, true, false, ◌&&◌, length};
+ghost use Rattle.std.specs.Prelude.{◌≡◌, ◌+◌, ◌<◌, ◌≤◌, length};
 ghost use Rattle.rules.specs.Answers.{slice_made};
-ghost use Rattle.candidates.specs.Problem.{given_in, wanted_in, middle_in, piece_goes, count_in, cut_piece, all_at_end, greatest, guide_in};
+ghost use Rattle.candidates.specs.Problem.{wanted_in, count_in, cut_piece, all_at_end, greatest, guide_in};
 ghost use Rattle.candidates.specs.Looked.{looked, next_position, next_by, moved_by, pieces, Within, Light};
 ghost use Rattle.candidates.specs.RowTable.{most_rows};
 ghost use Rattle.candidates.specs.Viewed.{the_view};
@@ -27,8 +27,8 @@ fn next_position(piece: &[u64], wanted: &[u64], at: u64) -> Option<u64>
     rest.starts_with(piece).then_some(at + piece.len() as u64)
 }
 
-// Examples and rows go by their numbers, as in lent memory. A type for a number below eight would be taken apart at each index, and each function says in a
-// clause what its numbers are below.
+// Examples and rows are numbers here, as in lent memory. As types of their own they would be taken apart at each index; so each function asks in a clause that its
+// numbers are in range.
 impl<'a> Problem<'a> {
     // What the cut by two rows makes of an example.
     fn middle(self, from: usize, to: usize, e: usize) -> Option<&'a [u64]>

@@ -30,6 +30,10 @@ pub(crate) const ASKED_AT: usize = POSITIONS_AT + MOST_EXAMPLES;
 pub(crate) const ROW: usize = 16;
 
 // A problem: how many examples and rows there are, with room; the examples and the asked text, the guides and the rows.
+pub(crate) const EXAMPLE_COUNT_AT: usize = 0;
+
+pub(crate) const ROW_COUNT_AT: usize = 1;
+
 pub(crate) const TEXTS_AT: usize = 16;
 
 pub(crate) const GUIDES_AT: usize = TEXTS_AT + (MOST_EXAMPLES + 1) * EXAMPLE;

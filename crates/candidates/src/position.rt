@@ -9,7 +9,7 @@ ghost use Rattle.candidates.specs.Tables.{examples_of, asked_of};
 use crate::question::Question;
 use rules::Place;
 
-// A row has a plain number where the place is missing too.
+// Where a place is missing a row has this number, since lent memory has numbers alone.
 const MISSING: u64 = 255;
 
 impl<'a> Question<'a> {

@@ -3,10 +3,7 @@ ghost use Rattle.std.specs.Prelude.{◌≡◌, ◌+◌, ◌<◌, ◌≤◌, min,
 ghost use Rattle.candidates.specs.Problem.{view_of, given_in, wanted_in};
 ghost use Rattle.candidates.specs.Viewed.{the_view};
 
-use crate::memory::{
-    EXAMPLE, GIVEN_AT, GUIDES_AT, MOST_BYTES, MOST_EXAMPLES, MOST_ROWS, PROBLEM, ROWS_AT, TEXTS_AT,
-    WANTED_AT,
-};
+use crate::memory::{EXAMPLE, EXAMPLE_COUNT_AT, GIVEN_AT, GUIDES_AT, MOST_BYTES, MOST_EXAMPLES, MOST_ROWS, PROBLEM, ROWS_AT, ROW_COUNT_AT, TEXTS_AT, WANTED_AT};
 use crate::problem::Problem;
 use crate::rows::Rows;
 
@@ -17,10 +14,10 @@ impl<'a> Problem<'a> {
         ensures { the_view result ≡ view_of numbers.now }
     {
         Problem {
-            examples: (numbers[0] as usize).min(MOST_EXAMPLES),
+            examples: (numbers[EXAMPLE_COUNT_AT] as usize).min(MOST_EXAMPLES),
             rows: Rows {
                 numbers: &numbers[ROWS_AT..PROBLEM],
-                count: (numbers[1] as usize).min(MOST_ROWS),
+                count: (numbers[ROW_COUNT_AT] as usize).min(MOST_ROWS),
             },
             texts: &numbers[TEXTS_AT..GUIDES_AT],
             guide: &numbers[GUIDES_AT..ROWS_AT],

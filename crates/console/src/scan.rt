@@ -1,6 +1,6 @@
 // Words, bytes and numbers read from text.
-ghost use Rattle.std.specs.Prelude.{◌≡◌, ◌<◌, drop, length, IfOk, IfErr, Some, None, MatchOption};
-ghost use Rattle.console.specs.Reading.{strip, front, begins_number, read_second, past_second, read_digit, read_hex, read_escaped, read_byte, read_number};
+ghost use Rattle.std.specs.Prelude.{◌≡◌, ◌<◌, length, IfOk, IfErr, Some, None, MatchOption};
+ghost use Rattle.console.specs.Reading.{strip, begins_number, read_second, past_second, read_digit, read_hex, read_escaped, read_byte, read_number};
 ghost use Rattle.console.specs.Told.{Tells};
 
 use crate::expected::Expected;

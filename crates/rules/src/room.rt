@@ -23,6 +23,15 @@ impl<'a> Writer<'a> {
         Writer { out, at: 0 }
     }
 
+    // Writes behind bytes that are written already.
+    pub fn behind(out: &'a mut [u8], at: usize) -> Writer<'a>
+        requires { at ≤ length out.old }
+        ensures same_reference { lender result ≡ out.entry.ghost_name }
+        ensures from { the_writing result ≡ record { out = out.old; at = at } }
+    {
+        Writer { out, at }
+    }
+
     // How many bytes are written.
     pub fn at(&self) -> usize
         ensures { result ≡ (the_writing self.now).at }

@@ -3,8 +3,8 @@ ghost use Rattle.std.specs.Prelude.{◌≡◌, ◌≤◌, true, length};
 ghost use Rattle.rules.specs.Answers.{written_told, written_left};
 ghost use Rattle.rules.specs.Lists.{flat};
 ghost use Rattle.rules.specs.Order.{place_spelled, part_spelled, rule_spelled};
-ghost use Rattle.rules.specs.Rules.{bytes, cut, a_part, a_rule};
-ghost use Rattle.rules.specs.Values.{the_place, the_part, the_parts};
+ghost use Rattle.rules.specs.Rules.{bytes, cut, a_part};
+ghost use Rattle.rules.specs.Values.{the_place, the_part};
 ghost use Rattle.rules.specs.Held.{the_rule};
 ghost use Rattle.rules.specs.Writing.{the_writing, Writes, HasRoom};
 

@@ -1,12 +1,12 @@
 -- Frames as they lie in memory: read where they were laid down, and laid down one behind the other.
 use Rattle.std.proofs.Common.{◌≡◌, ℕ, suc, ◌+◌, ◌-◌, ◌*◌, ◌<◌, ◌≤◌, Bool, true, eqb, List, [], ◌∷◌, ◌++◌, length, get_or, take, drop, sym, refl, map, ap, ◌∙◌, ap₂, append_assoc, append-nil, arith, length-append}
 use borrow.Rule.Slice.PartMut.{put_mid}
-use Rattle.std.proofs.lemmas.List.{drop-drop, take_at, drop_at, get_or-drop, take_more, take_all}
+use Rattle.std.proofs.lemmas.List.{drop-drop, take_at, drop_at, get_or-drop, take_more}
 use Rattle.std.proofs.lemmas.Bool.{and_parts, eqb-true}
 use Rattle.std.specs.List.{range_with_len}
 use Rattle.rules.specs.Lists.{flat, every}
 use Rattle.rules.specs.Answers.{written}
-use Rattle.rules.proofs.WrittenBytes.{copied_is, written_none, written_next}
+use Rattle.rules.proofs.WrittenBytes.{copied_is, written_next}
 use Rattle.search.specs.Memory.{frame_numbers, frame_from, frames_from}
 use Rattle.search.specs.Steps.{held}
 use Rattle.search.specs.declared.frame.Frame.{Frame}
@@ -47,9 +47,6 @@ pub record FramesLaid (before : List ℕ) (fs : List Frame) (m : List ℕ) (i : 
   pub laid : m ≡ written before 4 (flat frame_numbers (take i fs))
   pub long : length (flat frame_numbers (take i fs)) ≡ 11 * i
 
-pub frames_none : (m : List ℕ) (fs : List Frame) → FramesLaid m fs m 0
-frames_none m fs = record { laid = sym (written_none m 4); long = refl }
-
 pub frames_more : (before m after : List ℕ) (fs : List Frame) (i : ℕ) (f : Frame) → FramesLaid before fs m i → after ≡ written m (4 + 11 * i) (frame_numbers f) →
     length f.state ≡ 9 → 4 + 11 * i ≤ length before → i < length fs → f ≡ get_or fs i f → FramesLaid before fs after (i + 1)
 frames_more before m after fs i f l e nine room h is =
@@ -59,12 +56,6 @@ frames_more before m after fs i f l e nine room h is =
       laid = written_next before 4 (4 + 11 * i) (flat frame_numbers (take i fs)) (frame_numbers f) m after (omega arith) l.laid (omega arith) e ∙ ap (written before 4) more;
       long = (let n = length-append (flat frame_numbers (take i fs)) (frame_numbers f) in let k = ap length more in let eleven = frame_long f nine in omega arith);
     }
-
--- with the first four numbers, that is the machine
-pub frames_all : (m head before after : List ℕ) (fs : List Frame) (i : ℕ) → before ≡ written m 0 head → length head ≡ 4 → 4 ≤ length m → FramesLaid before fs after i → length fs ≤ i →
-    after ≡ written m 0 (head ++ flat frame_numbers fs)
-frames_all m head before after fs i e four room l all =
-    written_next m 0 4 head (flat frame_numbers fs) before after (omega arith) e (omega arith) (l.laid ∙ ap (λ xs. written before 4 (flat frame_numbers xs)) (take_all i fs all))
 
 -- reading back what was laid down
 pub frame_back : (f : Frame) (rest : List ℕ) → length f.state ≡ 9 → frame_from (frame_numbers f ++ rest) ≡ f

@@ -26,3 +26,4 @@ pub use refusal::Refusal;
 pub use search::{MEMORY, Search};
 pub use seen::Seen;
 pub use status::Status;
+pub use whole::find;

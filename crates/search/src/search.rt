@@ -33,7 +33,7 @@ impl<'a> Search<'a> {
         Search { memory }
     }
 
-    // The same, to be read.
+    // The search, to be read.
     pub fn seen(&self) -> Seen<'_>
         ensures { seen_memory result ≡ the_memory self.now }
     {

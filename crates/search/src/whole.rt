@@ -1,5 +1,6 @@
 // A whole search: begun, and advanced until it ends.
-ghost use Rattle.std.specs.Prelude.{◌≡◌, Some, IfOk, IfErr};
+ghost use Rattle.std.specs.Prelude.{◌≡◌, length, Some, IfOk, IfErr};
+ghost use Rattle.search.specs.Memory.{memory_size};
 ghost use Rattle.candidates.specs.Values.{the_examples};
 ghost use Rattle.search.specs.MemoryPromises.{CarriedOut};
 ghost use Rattle.search.specs.Refusals.{refusal_of};
@@ -9,6 +10,16 @@ use crate::refusal::Refusal;
 use crate::search::Search;
 use crate::status::Status;
 use candidates::Example;
+
+// How the search ends for the first rule that does the examples, in memory that is lent for it; the memory then has the rule.
+pub fn find(memory: &mut [u64], examples: &[Example]) -> Result<Status, Refusal>
+    requires { length memory.old ≡ memory_size }
+    ensures ended { IfOk result (CarriedOut (the_examples examples.now) memory.old memory.new) }
+    ensures refused { IfErr result (λ refusal. refusal_of (the_examples examples.now) ≡ Some refusal) }
+    ensures unchanged { IfErr result (λ _. memory.new ≡ memory.old) }
+{
+    Search::over(memory).find(examples)
+}
 
 impl Search<'_> {
     // How the search for the first rule that does the examples ends; the memory then has the rule. That it ends is proved, and not how soon.
