@@ -1,4 +1,4 @@
-// The candidate parts at a state, by their numbers: literals of the next bytes of the first wanted text, then cuts by two rows.
+// A candidate part: a literal of the next bytes of the first wanted text, or a cut by two rows.
 // Anyone can make one, so each function that takes one says in a clause that its numbers are in range.
 #[derive(Clone, Copy)]
 pub enum Candidate<'a> {

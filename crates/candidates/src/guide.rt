@@ -165,7 +165,7 @@ impl<'a> CostedExample<'a> {
             given,
             wanted,
         } = self;
-        // By number, since x is where three slices are cut.
+        // By number, since the costs and the given text are cut at x.
         for x in 0..given.len() {
             along(room, costs[x], &costs[x + 1..], &given[x..], wanted);
         }
@@ -209,7 +209,7 @@ pub(crate) fn lay_guides(
     requires costs_small { (e : ℕ) → e < 8 → NoneAbove 255 (slice_index_or costs.now e []) }
     ensures { out.new ≡ guides_laid costs.now (examples_of question.entry) (length question.entry.examples.now) out.old }
 {
-    // By number, since e is where the guide lies in lent memory.
+    // By number: of what is written through the library's chunks a proof knows only how long it is.
     for (e, example) in question.examples.iter().enumerate() {
         let costed = CostedExample {
             costs: &costs[e],

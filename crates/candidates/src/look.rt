@@ -1,4 +1,4 @@
-// A look at a candidate part: where it leads from a state, and what it weighs. Given and wanted texts are gone through side by side.
+// Where a candidate leads from a state, and what it weighs; whether a state is the end, and what is still needed there.
 ghost use Rattle.std.specs.Prelude.{◌≡◌, ◌+◌, ◌<◌, ◌≤◌, length};
 ghost use Rattle.rules.specs.Answers.{slice_made};
 ghost use Rattle.candidates.specs.Problem.{wanted_in, count_in, cut_piece, all_at_end, greatest, guide_in};

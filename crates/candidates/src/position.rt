@@ -18,7 +18,7 @@ impl<'a> Question<'a> {
         ensures { IfThere (examples_of self.entry) (the_place place) result (positions_in (examples_of self.entry) 8 (the_place place)) }
     {
         let mut at = [0u64; 8];
-        // By number: a chain that fails where a place is missing says nothing of what it collects.
+        // By number: past the last example 0 stands, so that `array::try_from_fn` is no plainer.
         for (e, example) in self.examples.iter().enumerate() {
             at[e] = place.spot(example.given)? as u64;
         }

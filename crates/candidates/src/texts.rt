@@ -38,7 +38,7 @@ pub(crate) fn lay_texts(out: &mut [u64], question: Question)
     requires size { length out.old ≡ 1170 }
     ensures { out.new ≡ texts_laid (examples_of question.entry) (length question.entry.examples.now) out.old }
 {
-    // By number, since e is where the texts lie in lent memory.
+    // By number: of what is written through the library's chunks a proof knows only how long it is.
     for (e, example) in question.examples.iter().enumerate() {
         put_example(out, e, example);
     }

@@ -98,7 +98,7 @@ impl Machine {
             self.depth as u64,
         ];
         memory[..HEAD].copy_from_slice(&head);
-        // By number, since i is where the frame lies in lent memory.
+        // By number: of what is written through the library's chunks a proof knows only how long it is.
         for (i, frame) in self.frames.iter().enumerate() {
             frame.put(memory, HEAD + FRAME * i);
         }
