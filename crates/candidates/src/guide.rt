@@ -12,10 +12,10 @@ use crate::rows::Rows;
 use crate::weight::{cut_weight, literal_weight};
 use std::array;
 
-// More than any rule weighs.
+// More than any rule weighs: said where no rule will do, since sums and budgets need a number there.
 const FAR: u64 = 65536;
 
-// What is said of a position where no place is: as much as any costs.
+// Said of a position where no place is, since the least of costs needs a number there: as much as any costs.
 const NO_PLACE: u64 = 255;
 
 // The cost at a position is lowered to this one, if that is less; a position past the last is passed over.
@@ -96,6 +96,7 @@ impl<'a> Steps<'a> {
         requires { k < 9 }
         ensures { result ≡ least_in k self.entry.weights.now self.entry.behind.now }
     {
+        // A loop, since a fold would have to be told of each pair that its sum is small.
         let mut least = FAR;
         for (weight, column) in self.weights.iter().zip(self.behind.chunks_exact(COLUMN)) {
             least = least.min(weight + column[k]);

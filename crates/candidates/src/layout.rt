@@ -8,7 +8,7 @@ ghost use Rattle.candidates.specs.Values.{the_examples, the_asked};
 
 use crate::example::Example;
 use crate::guide::{all_costs, lay_guides};
-use crate::memory::{EXAMPLE_COUNT_AT, GUIDES_AT, ROWS_AT, ROW_COUNT_AT, TEXTS_AT};
+use crate::memory::{EXAMPLE_COUNT_AT, GUIDES_AT, ROW_COUNT_AT, ROWS_AT, TEXTS_AT};
 use crate::question::Question;
 use crate::texts::lay_texts;
 use crate::walk::lay_rows;

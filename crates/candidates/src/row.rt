@@ -11,7 +11,7 @@ use rules::Place;
 
 pub(crate) type Row = [u64; ROW];
 
-// The five numbers that say a place.
+// The five numbers that say a place: which sort it is goes by a number too, since lent memory has numbers alone.
 #[tactic(auto, unfolding(crate::specs::RowTable::place_numbers))]
 fn place_numbers(place: Place) -> [u64; COST_AT]
     ensures { result ≡ place_numbers (the_place place) }

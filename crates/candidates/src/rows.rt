@@ -6,6 +6,7 @@ ghost use Rattle.candidates.specs.RowTable.{row_number, place_says, table_size, 
 use crate::memory::{COST_AT, POSITIONS_AT, ROW};
 use crate::row::Row;
 
+// Beside `Table`, which fills it, as a `&` is beside a `&mut`.
 #[derive(Clone, Copy)]
 pub(crate) struct Rows<'a> {
     pub numbers: &'a [u64],

@@ -3,7 +3,10 @@ ghost use Rattle.std.specs.Prelude.{◌≡◌, ◌+◌, ◌<◌, ◌≤◌, min,
 ghost use Rattle.candidates.specs.Problem.{view_of, given_in, wanted_in};
 ghost use Rattle.candidates.specs.Viewed.{the_view};
 
-use crate::memory::{EXAMPLE, EXAMPLE_COUNT_AT, GIVEN_AT, GUIDES_AT, MOST_BYTES, MOST_EXAMPLES, MOST_ROWS, PROBLEM, ROWS_AT, ROW_COUNT_AT, TEXTS_AT, WANTED_AT};
+use crate::memory::{
+    EXAMPLE, EXAMPLE_COUNT_AT, GIVEN_AT, GUIDES_AT, MOST_BYTES, MOST_EXAMPLES, MOST_ROWS, PROBLEM,
+    ROW_COUNT_AT, ROWS_AT, TEXTS_AT, WANTED_AT,
+};
 use crate::problem::Problem;
 use crate::rows::Rows;
 

@@ -24,7 +24,8 @@ impl Failed {
     }
 }
 
-// Why nothing was read. What `?` makes of an error is written by hand, since contracts name it.
+// Why nothing was read. Reading counts what is left; `NotARule` says at which byte of the whole text that is. What `?` makes of an error is written by hand,
+// since contracts name it.
 #[derive(Clone, Copy)]
 pub enum Stopped {
     Failed(Failed),

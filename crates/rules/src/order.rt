@@ -76,7 +76,7 @@ impl Eq for Rule {
 }
 
 impl Rule {
-    // Whether this rule comes before the other: it is cheaper, or as cheap and spelled earlier.
+    // Whether this rule comes before the other: it is cheaper, or as cheap and spelled earlier. `<`, with its promise in the words of the definitions.
     #[tactic(auto, using(crate::proofs::RuleOrder::before_is))]
     pub fn comes_before(&self, other: &Rule) -> bool
         ensures { result ≡ rule_before (the_rule self.now) (the_rule other.now) }

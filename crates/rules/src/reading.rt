@@ -141,7 +141,7 @@ impl Rule {
         ensures { RuleRead result (read_rule bytes.now) }
     {
         let (parts, rest) = read_counted(heap, bytes)?;
-        if rest.len() > 0 {
+        if !rest.is_empty() {
             return Err(Fault::LeftOver(rest.len()));
         }
         Rule::new(parts)

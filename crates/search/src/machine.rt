@@ -11,9 +11,10 @@ pub(crate) const MOST_PARTS: usize = 8;
 // No rule weighs more: eight literals of 64 bytes.
 pub(crate) const LIMIT: u64 = 33416;
 
-// The shortfall that a round starts from.
+// The shortfall that a round starts from: a number, so that the least can be taken.
 pub(crate) const FAR: u64 = 65536;
 
+// All eight frames, and not an `ArrayVec` of those in use, since what lies in memory behind these stays there.
 #[derive(Clone, Copy)]
 pub struct Machine {
     pub(crate) status: Status,

@@ -18,6 +18,7 @@ const FRAME: usize = 11;
 // The numbers of a machine.
 pub(crate) const MACHINE: usize = HEAD + MOST_PARTS * FRAME;
 
+// The numbers are written out, so that memory does not hang on the order of the cases.
 impl From<Status> for u64 {
     ghost from_gives = { λ s n. n ≡ status_number s };
 

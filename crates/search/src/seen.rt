@@ -7,6 +7,7 @@ use crate::memory::MACHINE;
 use crate::search::MEMORY;
 use candidates::Problem;
 
+// Beside `Search` as a `&` is beside a `&mut`: this one can be copied, and asks for less.
 #[derive(Clone, Copy)]
 pub struct Seen<'a> {
     memory: &'a [u64],

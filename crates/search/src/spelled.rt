@@ -26,7 +26,7 @@ impl Machine {
         }
     }
 
-    // Spells the rule of these parts, and says with how many bytes.
+    // Spells the rule of these parts, and says with how many bytes. Apart from `Seen::spell`, in which the proof of `after` doesn't close.
     fn spell(&self, problem: Problem, out: &mut [u8]) -> usize
         requires { 529 ≤ length out.old }
         ensures value { result ≡ length (spelled_in (the_view problem.entry) (the_held self.now)) }
