@@ -7,12 +7,13 @@ ghost use Rattle.candidates.specs.Spelled.{cut_spelled, spelled_as, candidate_sp
 ghost use Rattle.candidates.specs.Viewed.{the_view};
 
 use crate::candidate::Candidate;
+use crate::memory::State;
 use crate::problem::Problem;
 use crate::weight::{cut_weight, literal_weight};
 
 impl<'a> Problem<'a> {
     // How many literals can go on: as many as bytes of the first wanted text are still to be made.
-    fn literals(self, state: &[u64; 9]) -> usize
+    fn literals(self, state: &State) -> usize
         ensures value { result ≡ literals_in (the_view self.entry) state.now }
         ensures bound { result ≤ 64 }
     {
@@ -28,7 +29,7 @@ impl<'a> Problem<'a> {
     }
 
     // How many candidates a state has.
-    pub fn count(self, state: &[u64; 9]) -> usize
+    pub fn count(self, state: &State) -> usize
         ensures value { result ≡ count_in (the_view self.entry) state.now }
         ensures bound { result ≤ 42250064 }
     {
@@ -50,7 +51,7 @@ impl<'a> Problem<'a> {
     }
 
     // The candidate of a number below their count.
-    pub fn candidate(self, state: &[u64; 9], index: usize) -> Candidate<'a>
+    pub fn candidate(self, state: &State, index: usize) -> Candidate<'a>
         requires { index < count_in (the_view self) state.now }
         ensures value { (e : ℕ) → pieces (the_view self.entry) result e ≡ candidate_piece (the_view self.entry) state.now index e }
         ensures weight { weighs (the_view self.entry) result ≡ candidate_weight (the_view self.entry) state.now index }

@@ -28,6 +28,7 @@ pub use candidate::Candidate;
 pub use example::Example;
 pub use layout::lay;
 pub use look::Move;
+pub use memory::{MOST_EXAMPLES, PROBLEM, STATE, State};
 pub use problem::Problem;
 pub use promises::{
     a_candidate_stands_for_each_part, a_problem_is_laid_right, a_rule_leads_to_the_end,

@@ -7,14 +7,13 @@ ghost use Rattle.candidates.specs.RowTable.{most_rows};
 ghost use Rattle.candidates.specs.Viewed.{the_view};
 
 use crate::candidate::Candidate;
-use crate::memory::{COLUMN, GUIDE, POSITIONS};
+use crate::memory::{COLUMN, GUIDE, POSITIONS, State};
 use crate::problem::Problem;
 
 // Where a candidate leads, and what it weighs.
 #[derive(Clone, Copy)]
 pub struct Move {
-    // How far each wanted text has been made: one number for each of up to eight examples, and one more.
-    pub state: [u64; 9],
+    pub state: State,
     pub weight: u64,
 }
 
@@ -65,7 +64,7 @@ impl<'a> Problem<'a> {
     }
 
     // Where a candidate leads from a state, if it goes on in every example.
-    fn lead(self, candidate: Candidate<'a>, state: &[u64; 9]) -> Option<[u64; 9]>
+    fn lead(self, candidate: Candidate<'a>, state: &State) -> Option<State>
         requires { Within candidate }
         ensures { result ≡ moved_by (the_view self.entry) (pieces (the_view self.entry) candidate.entry) state.now }
     {
@@ -78,7 +77,7 @@ impl<'a> Problem<'a> {
     }
 
     // Where the candidate of a number leads from a state, if it goes, and what it weighs.
-    pub fn look(self, state: &[u64; 9], index: usize) -> Option<Move>
+    pub fn look(self, state: &State, index: usize) -> Option<Move>
         requires { index < count_in (the_view self) state.now }
         ensures value { result ≡ looked (the_view self.entry) state.now index }
         ensures bound { Light result }
@@ -92,14 +91,14 @@ impl<'a> Problem<'a> {
     }
 
     // Whether every wanted text has been made.
-    pub fn at_end(self, state: &[u64; 9]) -> bool
+    pub fn at_end(self, state: &State) -> bool
         ensures { result ≡ all_at_end (the_view self.entry) (the_view self.entry).examples state.now }
     {
         (0..self.examples).all(|e| state[e] as usize == self.wanted(e).len())
     }
 
     // What is still needed at least, with so many parts at most: the most that one example needs.
-    pub fn needed(self, parts: usize, state: &[u64; 9]) -> u64
+    pub fn needed(self, parts: usize, state: &State) -> u64
         requires { parts ≤ 8 }
         ensures value { result ≡ greatest (the_view self.entry) parts (the_view self.entry).examples state.now }
         ensures bound { result < 4294967296 }

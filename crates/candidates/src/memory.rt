@@ -1,6 +1,11 @@
 // How a problem lies in memory: counts of numbers, and where parts begin.
 
-pub(crate) const MOST_EXAMPLES: usize = 8;
+pub const MOST_EXAMPLES: usize = 8;
+
+// A state: how far each wanted text has been made, one number for each of up to eight examples, and one more.
+pub const STATE: usize = MOST_EXAMPLES + 1;
+
+pub type State = [u64; STATE];
 
 pub(crate) const MOST_BYTES: usize = 64;
 
@@ -40,4 +45,4 @@ pub(crate) const GUIDES_AT: usize = TEXTS_AT + (MOST_EXAMPLES + 1) * EXAMPLE;
 
 pub(crate) const ROWS_AT: usize = GUIDES_AT + MOST_EXAMPLES * GUIDE;
 
-pub(crate) const PROBLEM: usize = ROWS_AT + MOST_ROWS * ROW;
+pub const PROBLEM: usize = ROWS_AT + MOST_ROWS * ROW;

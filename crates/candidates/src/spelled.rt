@@ -6,6 +6,7 @@ ghost use Rattle.candidates.specs.Spelled.{as_byte, literal_spelled, row_spelled
 ghost use Rattle.candidates.specs.Viewed.{the_view};
 
 use crate::candidate::Candidate;
+use crate::memory::State;
 use crate::problem::Problem;
 use rules::Writer;
 
@@ -64,7 +65,7 @@ impl<'a> Problem<'a> {
     }
 
     // Spells the candidate of a number; where there is none of this number, nothing is written.
-    pub fn put_candidate(self, state: &[u64; 9], index: usize, writer: &mut Writer)
+    pub fn put_candidate(self, state: &State, index: usize, writer: &mut Writer)
         requires { HasRoomFor (the_writing writer.old) 66 }
         ensures writes { Writes writer.old writer.new (candidate_spelled (the_view self.entry) state.now index) }
         ensures bound { (the_writing writer.new).at ≤ (the_writing writer.old).at + 66 }

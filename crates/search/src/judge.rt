@@ -5,7 +5,7 @@ ghost use Rattle.candidates.specs.Viewed.{the_view};
 ghost use Rattle.search.specs.Steps.{look_in, the_look, Near};
 
 use crate::frame::Frame;
-use candidates::Problem;
+use candidates::{Problem, State};
 
 #[derive(Clone, Copy)]
 pub enum Outcome {
@@ -14,7 +14,7 @@ pub enum Outcome {
     // The state behind it accepts.
     Ends,
     // The search goes on from there, with so much left of the budget.
-    Enters { state: [u64; 9], left: u64 },
+    Enters { state: State, left: u64 },
 }
 
 // What comes of a look at the next candidate of a frame, with so many parts at most behind it and this shortfall noted so far.

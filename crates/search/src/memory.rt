@@ -7,13 +7,14 @@ ghost use Rattle.search.specs.Holds.{the_held};
 use crate::frame::Frame;
 use crate::machine::{FAR, LIMIT, MOST_PARTS, Machine};
 use crate::status::Status;
+use candidates::STATE;
 use std::array;
 
 // How far the search has come, the budget, the shortfall, and how many frames are in use.
 const HEAD: usize = 4;
 
-// The numbers of a frame: nine positions, what is left of the budget, and the next candidate.
-const FRAME: usize = 11;
+// The numbers of a frame: a state, what is left of the budget, and the next candidate.
+const FRAME: usize = STATE + 2;
 
 // The numbers of a machine.
 pub(crate) const MACHINE: usize = HEAD + MOST_PARTS * FRAME;
@@ -50,12 +51,12 @@ impl Frame {
         requires { at + FRAME ≤ length memory.now }
         ensures { result ≡ frame_from (drop at memory.now) }
     {
-        let mut state = [0; 9];
-        state.copy_from_slice(&memory[at..at + 9]);
+        let mut state = [0; STATE];
+        state.copy_from_slice(&memory[at..at + STATE]);
         Frame {
             state,
-            left: memory[at + 9],
-            index: memory[at + 10],
+            left: memory[at + STATE],
+            index: memory[at + STATE + 1],
         }
     }
 
@@ -67,8 +68,8 @@ impl Frame {
         ensures nine { length self.state ≡ 9 }
     {
         let rest = [self.left, self.index];
-        memory[at..at + 9].copy_from_slice(&self.state);
-        memory[at + 9..at + FRAME].copy_from_slice(&rest);
+        memory[at..at + STATE].copy_from_slice(&self.state);
+        memory[at + STATE..at + FRAME].copy_from_slice(&rest);
     }
 }
 

@@ -4,7 +4,7 @@ ghost use Rattle.candidates.specs.Values.{the_examples};
 ghost use Rattle.search.specs.Begun.{told_by};
 ghost use Rattle.search.specs.Refusals.{refusal_of};
 
-use candidates::{Example, are_small};
+use candidates::{Example, MOST_EXAMPLES, are_small};
 use thiserror::Error;
 
 #[derive(Clone, Copy, PartialEq, Eq, Debug, Error)]
@@ -19,11 +19,11 @@ pub enum Refusal {
 pub(crate) fn check_examples(examples: &[Example]) -> Result<(), Refusal>
     ensures { result ≡ told_by (refusal_of (the_examples examples.now)) }
 {
-    if are_small(examples) {
-        Ok(())
-    } else if examples.len() > 8 {
-        Err(Refusal::TooMany)
-    } else {
-        Err(Refusal::TooLong)
+    if examples.len() > MOST_EXAMPLES {
+        return Err(Refusal::TooMany);
     }
+    if !are_small(examples) {
+        return Err(Refusal::TooLong);
+    }
+    Ok(())
 }

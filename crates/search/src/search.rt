@@ -5,10 +5,10 @@ ghost use Rattle.search.specs.Memory.{memory_size};
 use crate::machine::Machine;
 use crate::memory::MACHINE;
 use crate::seen::Seen;
-use candidates::{Example, lay};
+use candidates::{Example, PROBLEM, lay};
 
 // So many numbers of memory a search takes.
-pub const MEMORY: usize = 109958;
+pub const MEMORY: usize = MACHINE + PROBLEM;
 
 #[derive(Drop)]
 pub struct Search<'a> {

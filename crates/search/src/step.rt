@@ -10,10 +10,10 @@ use crate::frame::Frame;
 use crate::judge::{Outcome, judge};
 use crate::machine::{FAR, LIMIT, MOST_PARTS, Machine};
 use crate::status::Status;
-use candidates::Problem;
+use candidates::{Problem, STATE, State};
 
 // The state that a search starts from: nothing is made yet.
-const START: [u64; 9] = [0; 9];
+const START: State = [0; STATE];
 
 impl Machine {
     // Ends with no frame in use.
