@@ -16,7 +16,7 @@ use std::alloc::Global;
 
 // What follows the opening quote of a literal: 1 to 64 bytes, and the closing quote.
 #[tactic(auto, using(crate::proofs::StepsRead::bytes_steps), unfolding(crate::specs::Reading::read_literal))]
-fn read_literal(heap: Global, text: &[u8]) -> Result<(Vec<u8>, &[u8]), Stopped>
+fn read_literal(heap: Global, text: &[u8]) -> Reading<'_, Vec<u8>, Stopped>
     ensures { TellsMade vec_items (read_literal text.now) result }
 {
     let (first, mut rest) = read_byte(text)?;
@@ -46,7 +46,7 @@ fn read_cut(text: &[u8]) -> Reading<'_, Part>
 }
 
 #[tactic(auto, unfolding(crate::specs::Reading::read_part))]
-fn read_part(heap: Global, text: &[u8]) -> Result<(Part, &[u8]), Stopped>
+fn read_part(heap: Global, text: &[u8]) -> Reading<'_, Part, Stopped>
     ensures { TellsMade the_part (read_part text.now) result }
 {
     if let Some(rest) = strip(b"\"", text) {

@@ -8,7 +8,7 @@ use crate::failed::Failed;
 use crate::words;
 
 // What was read and the text that is left, or where it failed.
-pub type Reading<'a, T> = Result<(T, &'a [u8]), Failed>;
+pub type Reading<'a, T, E = Failed> = Result<(T, &'a [u8]), E>;
 
 // The text after a word, if it begins with it.
 pub fn strip<'a>(word: &[u8], text: &'a [u8]) -> Option<&'a [u8]>
