@@ -89,10 +89,10 @@ fn read_sides(n: u8, back: bool, text: &[u8]) -> Reading<'_, Place>
 fn read_word(n: u8, text: &[u8]) -> Reading<'_, Place>
     ensures { Tells the_place (read_word n text.now) result }
 {
-    if let Some(rest) = strip(b" place ", text) {
+    if let Some(rest) = strip(words::later_place(false), text) {
         return read_sides(n, false, rest);
     }
-    let rest = expect(b" last place ", text, Expected::PlaceWord)?;
+    let rest = expect(words::later_place(true), text, Expected::PlaceWord)?;
     read_sides(n, true, rest)
 }
 
@@ -158,10 +158,10 @@ fn read_the(text: &[u8]) -> Reading<'_, Place>
     if begins_number(text) {
         return read_later(text);
     }
-    if let Some(rest) = strip(b"first place ", text) {
+    if let Some(rest) = strip(words::first_place(false), text) {
         return read_sides(1, false, rest);
     }
-    match strip(b"last place ", text) {
+    match strip(words::first_place(true), text) {
         Some(rest) => read_sides(1, true, rest),
         None => read_edge(0, text),
     }

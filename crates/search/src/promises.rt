@@ -1,4 +1,5 @@
 // What is promised of the search. Each function has one statement of specs/ as its contract, and does nothing.
+// `using` names the lemma that proves it; a lemma that ends in a pair is cited by an answer in proofs/promises.
 ghost use Rattle.search.specs.Promises.{SearchRight, NeverWrong, EndedStays};
 ghost use Rattle.search.specs.MemoryPromises.{FindsTheFirst, SaysNoWrong, SpellsTheRule};
 
@@ -28,6 +29,7 @@ pub fn the_search_is_never_wrong()
 {}
 
 // Once it has ended it stays as it is.
+#[tactic(auto, using(crate::proofs::SearchRight::ended_stays))]
 pub fn an_ended_search_stays()
     ensures { EndedStays }
 {}
