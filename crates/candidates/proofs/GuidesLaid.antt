@@ -89,12 +89,13 @@ module _ (css : List (List ℕ)) (es : List Example) where
 
 -- as a loop lays down the guide of the example that it has come to
 pub guides_goes_on :
-    (css : List (List ℕ)) (xs : List declared.Example) (ns S ys : List ℕ) (e : ℕ) (d : declared.Example) → e < length xs →
-    ys ≡ laid_columns (columns (get_or css e []) (get_or xs e d).given.now (get_or xs e d).wanted.now) (take (585 * e + 585 - 585 * e) (drop (585 * e) S)) → S ≡ guides_laid css (the_examples xs) e ns →
+    (css : List (List ℕ)) (cs : List ℕ) (xs : List declared.Example) (ns S ys : List ℕ) (e : ℕ) (d : declared.Example) → e < length xs → cs ≡ get_or css e [] →
+    ys ≡ laid_columns (columns cs (get_or xs e d).given.now (get_or xs e d).wanted.now) (take (585 * e + 585 - 585 * e) (drop (585 * e) S)) → S ≡ guides_laid css (the_examples xs) e ns →
     take (585 * e) S ++ (ys ++ drop (585 * e + 585 - 585 * e) (drop (585 * e) S)) ≡ guides_laid css (the_examples xs) (e + 1) ns
 unfolding guides_laid
-guides_goes_on css xs ns S ys e d h is so =
-    guide_put S ys (columns (get_or css e []) (get_or xs e d).given.now (get_or xs e d).wanted.now) e is
+guides_goes_on css cs xs ns S ys e d h costs is so =
+    guide_put S ys (columns (get_or css e []) (get_or xs e d).given.now (get_or xs e d).wanted.now) e
+        (is ∙ ap (λ k. laid_columns (columns k (get_or xs e d).given.now (get_or xs e d).wanted.now) (take (585 * e + 585 - 585 * e) (drop (585 * e) S))) costs)
     ∙ ap (λ l. with_guide l e (columns (get_or css e []) (get_or xs e d).given.now (get_or xs e d).wanted.now)) so
     ∙ ap (λ l. with_guide (guides_laid css (the_examples xs) e ns) e (columns (get_or css e []) l (get_or xs e d).wanted.now)) (sym (given_read xs e d h))
     ∙ ap (λ l. with_guide (guides_laid css (the_examples xs) e ns) e (columns (get_or css e []) (given_of (the_examples xs) e) l)) (sym (wanted_read xs e d h))

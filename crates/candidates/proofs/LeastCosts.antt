@@ -82,6 +82,3 @@ costs_of t n (suc (suc (suc (suc (suc zero))))) h = refl
 costs_of t n (suc (suc (suc (suc (suc (suc zero)))))) h = refl
 costs_of t n (suc (suc (suc (suc (suc (suc (suc zero))))))) h = refl
 costs_of t n (suc (suc (suc (suc (suc (suc (suc (suc e)))))))) h = absurd (omega arith)
-
-pub all_costs_small : (t : List ℕ) (n e : ℕ) → e < 8 → NoneAbove 255 (get_or (all_costs t n) e [])
-all_costs_small t n e h = subst (λ cs. NoneAbove 255 cs) (sym (costs_of t n e h)) (least_costs_small t e n)

@@ -1,12 +1,11 @@
 // A lower bound of the weight that one example alone still needs, by position in its wanted text and by the number of parts.
 ghost use Rattle.std.specs.List.{zip, prefix_len};
-ghost use Rattle.std.specs.Prelude.{◌≡◌, ◌==◌, ℕ, ◌+◌, ◌*◌, ◌<◌, ◌≤◌, [], length, drop, replicate, slice_index_or};
+ghost use Rattle.std.specs.Prelude.{◌≡◌, ◌==◌, ℕ, ◌+◌, ◌*◌, ◌<◌, ◌≤◌, length, drop, replicate};
 ghost use Rattle.candidates.specs.Guide.{lowered, least_costs, all_costs, along, steps, least_in, needed_with, column_in, NoneAbove};
 ghost use Rattle.candidates.specs.Guide.{with_column, columns, laid_columns, guides_laid};
-ghost use Rattle.candidates.specs.RowTable.{table_size, most_rows};
 ghost use Rattle.candidates.specs.Tables.{examples_of};
 
-use crate::memory::{COLUMN, COST_AT, GUIDE, MOST_BYTES, MOST_EXAMPLES, POSITIONS, POSITIONS_AT};
+use crate::memory::{COLUMN, COST_AT, GUIDE, MOST_BYTES, POSITIONS, POSITIONS_AT};
 use crate::question::Question;
 use crate::rows::Rows;
 use crate::weight::{cut_weight, literal_weight};
@@ -38,24 +37,6 @@ fn least_costs(rows: Rows, e: usize) -> [u64; POSITIONS]
         lower(&mut costs, row[POSITIONS_AT + e], row[COST_AT]);
     }
     costs
-}
-
-// The costs for eight given texts, over so many rows of a table.
-pub(crate) fn all_costs(table: &[u64], rows: usize) -> [[u64; POSITIONS]; MOST_EXAMPLES]
-    requires size { length table.now ≡ table_size }
-    requires few { rows ≤ most_rows }
-    ensures { result ≡ all_costs table.now rows }
-{
-    let rows = Rows {
-        numbers: table,
-        count: rows,
-    };
-    array::from_fn(
-        |e| -> [u64; POSITIONS]
-            requires { e < 8 }
-            ensures { result ≡ least_costs rows.entry.numbers.now e rows.entry.count (replicate 65 255) }
-        { least_costs(rows, e) },
-    )
 }
 
 // How many bytes two texts begin alike with.
@@ -201,19 +182,15 @@ impl<'a> CostedExample<'a> {
 }
 
 // Lays down the guides of all examples, those of one behind those of the other.
-pub(crate) fn lay_guides(
-    out: &mut [u64],
-    costs: &[[u64; POSITIONS]; MOST_EXAMPLES],
-    question: Question,
-)
-    requires size { length out.old ≡ 4680 }
-    requires costs_small { (e : ℕ) → e < 8 → NoneAbove 255 (slice_index_or costs.now e []) }
-    ensures { out.new ≡ guides_laid costs.now (examples_of question.entry) (length question.entry.examples.now) out.old }
+pub(crate) fn lay_guides(out: &mut [u64], rows: Rows, question: Question)
+    requires { length out.old ≡ 4680 }
+    ensures { out.new ≡ guides_laid (all_costs rows.entry.numbers.now rows.entry.count) (examples_of question.entry) (length question.entry.examples.now) out.old }
 {
     // By number: of what is written through the library's chunks a proof knows only how long it is.
     for (e, example) in question.examples.iter().enumerate() {
+        let costs = least_costs(rows, e);
         let costed = CostedExample {
-            costs: &costs[e],
+            costs: &costs,
             given: example.given,
             wanted: example.wanted,
         };

@@ -7,9 +7,10 @@ ghost use Rattle.candidates.specs.Rows.{short_example};
 ghost use Rattle.candidates.specs.Values.{the_examples, the_asked};
 
 use crate::example::Example;
-use crate::guide::{all_costs, lay_guides};
+use crate::guide::lay_guides;
 use crate::memory::{EXAMPLE_COUNT_AT, GUIDES_AT, ROW_COUNT_AT, ROWS_AT, TEXTS_AT};
 use crate::question::Question;
+use crate::rows::Rows;
 use crate::texts::lay_texts;
 use crate::walk::lay_rows;
 
@@ -25,8 +26,12 @@ pub fn lay(numbers: &mut [u64], examples: &[Example], asked: Option<&[u8]>)
     let (guide, table) = rest.split_at_mut(ROWS_AT - GUIDES_AT);
     let question = Question { examples, asked };
     lay_texts(texts, question);
-    let rows = lay_rows(table, question);
-    lay_guides(guide, &all_costs(table, rows), question);
+    let count = lay_rows(table, question);
+    let rows = Rows {
+        numbers: table,
+        count,
+    };
+    lay_guides(guide, rows, question);
     head[EXAMPLE_COUNT_AT] = examples.len() as u64;
-    head[ROW_COUNT_AT] = rows as u64;
+    head[ROW_COUNT_AT] = count as u64;
 }
