@@ -1,14 +1,15 @@
 // What standard error says of a file that was gone through.
-use console::{Miss, Table};
+use console::{Miss, Table, Why};
 use std::io;
 
 // One line: of which line nothing was made, and why, if it was too long.
 fn report_miss(rt: &impl Eprint, miss: &Miss) -> io::Result<()> {
     let line = miss.line;
-    if miss.too_long {
-        eprintln!(rt; "nothing was made of line {line}, which has more than 64 bytes")
-    } else {
-        eprintln!(rt; "nothing was made of line {line}")
+    match miss.why {
+        Why::TooLong => eprintln!(rt;
+            "nothing was made of line {line}, which has more than 64 bytes"
+        ),
+        Why::NothingMade => eprintln!(rt; "nothing was made of line {line}"),
     }
 }
 

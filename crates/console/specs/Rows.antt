@@ -3,6 +3,8 @@ use Rattle.std.specs.Prelude.{◌≡◌, ℕ, ◌+◌, List, [], ◌∷◌, ◌+
 use Rattle.rules.specs.Lists.{pick, none_of, flat}
 use Rattle.rules.specs.Rules.{Rule, Made, nothing, made, makes}
 use Rattle.console.specs.declared.rows.Miss.{Miss}
+use Rattle.console.specs.declared.rows.Why.{Why}
+use Rattle.console.specs.declared.rows.Why.TheVariants.{TooLong, NothingMade}
 use Rattle.console.specs.declared.rows.Table.{Table}
 
 -- a line ends with byte 10, or with the file
@@ -36,9 +38,13 @@ row r line = escaped line ++ behind (made_of r line)
 abbrev pub rows : Rule → List (List ℕ) → List ℕ
 rows r ls = flat (row r) ls
 
--- of which lines, counted on from n, nothing was made, and whether it is because they have more than 64 bytes
+-- why nothing is made of a line, where nothing is
+abbrev pub why_not : List ℕ → Why
+why_not line = pick (nat_le 65 (length line)) TooLong NothingMade
+
+-- of which lines, counted on from n, nothing was made, and why
 abbrev pub miss : ℕ → List ℕ → Made → List Miss
-miss n line nothing = record { line = n; too_long = nat_le 65 (length line) } ∷ []
+miss n line nothing = record { line = n; why = why_not line } ∷ []
 miss n line (made t) = []
 
 unfoldable pub missed : Rule → ℕ → List (List ℕ) → List Miss

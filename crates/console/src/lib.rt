@@ -16,7 +16,7 @@ pub use expected::Expected;
 pub use not_a_rule::NotARule;
 pub use print::rule_text;
 pub use read::read_rule;
-pub use rows::{Miss, Table, carry_out};
+pub use rows::{Miss, Table, Why, carry_out};
 
 #[cfg(test)]
 mod tests;

@@ -1,17 +1,26 @@
 // A file gone through with a rule: a row for each line, and of which lines nothing was made.
-ghost use Rattle.std.specs.Prelude.{◌≡◌, ◌-◌, ◌^◌, ◌<◌, ◌++◌, IfOk, MatchOption, OnOk};
+ghost use Rattle.std.specs.Prelude.{◌≡◌, ◌-◌, ◌^◌, ◌<◌, ◌++◌, IfOk, IfErr, OnOk, OnErr};
 ghost use Rattle.rules.specs.Rules.{nothing, made};
-ghost use Rattle.console.specs.Rows.{lines, escaped_byte, escaped, made_of, OneMore, TableOf};
+ghost use Rattle.console.specs.Rows.{lines, escaped_byte, escaped, made_of, why_not, OneMore, TableOf};
 ghost use Rattle.rules.specs.Held.{the_rule};
 
 use rules::Rule;
 use std::alloc::{AllocError, Global};
 
+// Why nothing was made of a line.
+#[derive(Clone, Copy, PartialEq, Eq, Debug)]
+pub enum Why {
+    // It has more than 64 bytes.
+    TooLong,
+    // The rule makes nothing of it.
+    NothingMade,
+}
+
 // A line of which nothing was made, by its number from 1.
 #[derive(Clone, Copy, PartialEq, Eq, Debug)]
 pub struct Miss {
     pub line: usize,
-    pub too_long: bool,
+    pub why: Why,
 }
 
 // What came of a file: the rows, how many lines there were, and of which nothing was made.
@@ -44,17 +53,19 @@ fn add_text(out: &mut Vec<u8>, text: &[u8]) -> Result<(), AllocError>
     Ok(())
 }
 
-// What the rule makes of a line, if anything, written into `room`.
+// What the rule makes of a line, written into `room`, or why nothing.
 #[tactic(auto, using(crate::proofs::RowsOfLines::made_has_room))]
-fn make<'a>(rule: &Rule, line: &[u8], room: &'a mut [u8; 512]) -> Option<&'a [u8]>
-    ensures { MatchOption result (made_of (the_rule rule.now) line.now ≡ nothing) (λ t. made_of (the_rule rule.now) line.now ≡ made t.now) }
+fn make<'a>(rule: &Rule, line: &[u8], room: &'a mut [u8; 512]) -> Result<&'a [u8], Why>
+    ensures made { IfOk result (λ t. made_of (the_rule rule.now) line.now ≡ made t.now) }
+    ensures none { OnErr result (made_of (the_rule rule.now) line.now ≡ nothing) }
+    ensures why { IfErr result (λ why. why ≡ why_not line.now) }
 {
     if line.len() > 64 {
-        return None;
+        return Err(Why::TooLong);
     }
     // Eight parts of up to 64 bytes each have room.
-    let n = rule.makes(line, room).unwrap()?;
-    Some(&room[..n])
+    let n = rule.makes(line, room).unwrap().ok_or(Why::NothingMade)?;
+    Ok(&room[..n])
 }
 
 impl Table {
@@ -66,13 +77,13 @@ impl Table {
         self.lines += 1;
         add_text(&mut self.rows, line)?;
         match make(rule, line, room) {
-            Some(text) => {
+            Ok(text) => {
                 self.rows.push(b'\t')?;
                 add_text(&mut self.rows, text)?;
             }
-            None => self.missed.push(Miss {
+            Err(why) => self.missed.push(Miss {
                 line: self.lines,
-                too_long: line.len() > 64,
+                why,
             })?,
         }
         self.rows.push(b'\n')?;
