@@ -95,7 +95,7 @@ pub guides_goes_on :
 unfolding guides_laid
 guides_goes_on css cs xs ns S ys e d h costs is so =
     guide_put S ys (columns (get_or css e []) (get_or xs e d).given.now (get_or xs e d).wanted.now) e
-        (is ∙ ap (λ k. laid_columns (columns k (get_or xs e d).given.now (get_or xs e d).wanted.now) (take (585 * e + 585 - 585 * e) (drop (585 * e) S))) costs)
+    (is ∙ ap (λ k. laid_columns (columns k (get_or xs e d).given.now (get_or xs e d).wanted.now) (take (585 * e + 585 - 585 * e) (drop (585 * e) S))) costs)
     ∙ ap (λ l. with_guide l e (columns (get_or css e []) (get_or xs e d).given.now (get_or xs e d).wanted.now)) so
     ∙ ap (λ l. with_guide (guides_laid css (the_examples xs) e ns) e (columns (get_or css e []) l (get_or xs e d).wanted.now)) (sym (given_read xs e d h))
     ∙ ap (λ l. with_guide (guides_laid css (the_examples xs) e ns) e (columns (get_or css e []) (given_of (the_examples xs) e) l)) (sym (wanted_read xs e d h))
