@@ -1,13 +1,23 @@
 -- What is read of the four parts of a problem: the numbers in front, the texts, the guide and the table.
-use Rattle.std.proofs.Common.{◌≡◌, ℕ, ◌+◌, ◌<◌, ◌≤◌, List, [], ◌++◌, length, get_or, take, drop, sym, refl, ap, ◌∙◌, append_assoc, append-nil, arith, length-append, length-drop, length-take}
-use Rattle.std.proofs.lemmas.List.{take_at, drop_at, get_or_append_left}
+use Rattle.std.proofs.Common.{◌≡◌, ℕ, ◌+◌, ◌<◌, ◌≤◌, List, [], ◌++◌, length, get_or, take, drop, sym, refl, ap, ◌∙◌, append_assoc, append-nil, arith, length-append, length-drop, take-append-drop, length-take}
+use Rattle.std.proofs.lemmas.List.{take_all, take_at, drop_at, drop-drop, get_or_append_left}
 
 -- a part between two others
 module _ (a k : ℕ) (p q s xs : List ℕ) (front : length p ≡ a) (size : length q ≡ k) (is : xs ≡ p ++ (q ++ s)) where
   part_read : take k (drop a xs) ≡ q
   part_read = ap (take k) (ap (drop a) is ∙ drop_at p (q ++ s) a front) ∙ take_at q s k size
 
+-- the four parts of a problem are all of it
 module _ (ns : List ℕ) (size : length ns ≡ 109866) where
+  rest : (a k : ℕ) → take k (drop a ns) ++ drop (a + k) ns ≡ drop a ns
+  rest a k = ap (λ l. take k (drop a ns) ++ l) (sym (drop-drop k a ns)) ∙ take-append-drop k (drop a ns)
+
+  pub four_parts : ns ≡ take 16 ns ++ (take 1170 (drop 16 ns) ++ (take 4680 (drop 1186 ns) ++ take 104000 (drop 5866 ns)))
+  four_parts =
+      let last : take 104000 (drop 5866 ns) ≡ drop 5866 ns = take_all 104000 (drop 5866 ns) (omega (arith, length-drop 5866 ns)) in
+      sym (ap (λ l. take 16 ns ++ (take 1170 (drop 16 ns) ++ (take 4680 (drop 1186 ns) ++ l))) last
+      ∙ ap (λ l. take 16 ns ++ (take 1170 (drop 16 ns) ++ l)) (rest 1186 4680) ∙ ap (λ l. take 16 ns ++ l) (rest 16 1170) ∙ take-append-drop 16 ns)
+
   pub part_long : (a k : ℕ) → a + k ≤ 109866 → length (take k (drop a ns)) ≡ k
   part_long a k h = let t = length-take k (drop a ns) in let d = length-drop a ns in omega arith
 

@@ -1,4 +1,4 @@
--- Parts that lead from a state to the end make of each given text what is left of the wanted one; they do the examples exactly if they lead from the start.
+-- Parts lead from a state to the end exactly if they make of each given text what is left of the wanted one; so they do the examples exactly if they lead from the start.
 use Rattle.std.proofs.Common.{◌≡◌, ℕ, zero, suc, ◌+◌, ◌<◌, ◌≤◌, Bool, true, false, ◌&&◌, eqb, leb, List, [], ◌∷◌, length, get_or, drop, replicate, sym, refl, ap, ◌∙◌, subst, ap₂, arith, length-drop}
 use Rattle.std.proofs.lemmas.Bool.{and_parts, and_from, leb-true, le-leb, eqb-true, eq-eqb}
 use Rattle.std.proofs.lemmas.Bool.Decides.{nat_tests}
@@ -88,6 +88,20 @@ rests_within (x ∷ es) (j ∷ js) q h =
 
 pub leads_within : (es : List Example) (s : List ℕ) (q : Rule) → leads es s q ≡ true → within es s ≡ true
 leads_within es s q h = rests_within es s q (sym (leads_rests es s q) ∙ h)
+
+-- and a rule that does so from a state that is not past any end leads to the end
+rests_from : (es : List Example) (s : List ℕ) (q : Rule) → within es s ≡ true → ((e : ℕ) → e < length es → makes q (given_of es e) ≡ made (drop (get_or s e 0) (wanted_of es e))) → makes_rests es s q ≡ true
+unfolding makes_rests within
+rests_from [] s q w h = refl
+rests_from (x ∷ es) [] q w h = w
+rests_from (x ∷ es) (j ∷ js) q w h =
+    let p = and_parts (leb j (length x.wanted)) (within es js) w in
+    let m = subst (λ m. is_made m (drop j x.wanted) ≡ true) (sym (h 0 (omega arith))) (is_made_itself (drop j x.wanted)) in
+    let ih = rests_from es js q p.1 (λ e k. h (suc e) (omega arith)) in
+    and_from _ _ (and_from _ _ p.0 m) ih
+
+pub makes_leads : (es : List Example) (s : List ℕ) (q : Rule) → within es s ≡ true → ((e : ℕ) → e < length es → makes q (given_of es e) ≡ made (drop (get_or s e 0) (wanted_of es e))) → leads es s q ≡ true
+makes_leads es s q w h = leads_rests es s q ∙ rests_from es s q w h
 
 rests_does : (es : List Example) (n : ℕ) (q : Rule) → length es ≤ n → makes_rests es (replicate n 0) q ≡ does es q
 unfolding makes_rests

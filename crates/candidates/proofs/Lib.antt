@@ -16,6 +16,7 @@ pub mod AlikeCuts
 pub mod Exchange
 pub mod MovesByRows
 pub mod ExamplesGoneThrough
+pub mod CandidateMoves
 pub mod ListMembers
 pub mod OrderedLists
 pub mod PlacesOrdered

@@ -1,6 +1,7 @@
 -- A look at a candidate says what its definition says; what is gone through of the examples counts as the definitions do.
-use Rattle.std.proofs.Common.{◌≡◌, ℕ, zero, suc, ◌+◌, ◌<◌, max, Bool, true, false, eqb, List, [], ◌∷◌, ◌++◌, length, get_or, Some, None, Option, refl, ap, ap₂, ◌∙◌, arith}
+use Rattle.std.proofs.Common.{◌≡◌, ℕ, zero, suc, ◌+◌, ◌<◌, max, Bool, true, false, eqb, List, [], ◌∷◌, ◌++◌, length, get_or, Some, None, Option, refl, ap, ap₂, ◌∙◌, subst, ⊎_elim, arith}
 use Rattle.std.specs.List.{range_with_len, list_all, fold}
+use Rattle.std.proofs.lemmas.Bool.{cases_eq, ne_eqb}
 use Rattle.std.proofs.lemmas.Bool.Decides.{nat_tests}
 use Rattle.std.proofs.lemmas.List.Folds.{list_all-append}
 use Rattle.std.proofs.lemmas.List.Sums.{fold-append}
@@ -48,6 +49,16 @@ module _ (v : View) (s : List ℕ) where
       let test : ℕ → Bool = λ e. eqb (get_or s e 0) (length (wanted_in v e)) in
       let ih = ends_all n in
       ap (list_all test) (range_past 0 n) ∙ list_all-append test (range_with_len 0 n) ((0 + n) ∷ []) ∙ grind arith
+
+  -- one that is not there is enough
+  pub end_stops : (m n : ℕ) → m < n → (get_or s m 0 ≡ length (wanted_in v m) → ⊥) → all_at_end v n s ≡ false
+  unfolding all_at_end
+  end_stops m zero h f = absurd (omega arith)
+  end_stops m (suc n) h f =
+      ⊎_elim
+      (λ e. let k = ne_eqb _ _ (subst (λ i. get_or s i 0 ≡ length (wanted_in v i) → ⊥) e f) in grind arith)
+      (λ ne. let k = end_stops m n (omega arith) f in grind arith)
+      (cases_eq m n)
 
   -- the most that one of them needs
   pub greatest_all : (k n : ℕ) → fold (λ most e. max most (guide_in v k e (get_or s e 0))) 0 (range_with_len 0 n) ≡ greatest v k n s

@@ -5,7 +5,7 @@ use Rattle.rules.specs.Rules.{Part, part_of}
 use Rattle.rules.specs.Promises.{made_length}
 use Rattle.rules.specs.Examples.{Example}
 use Rattle.candidates.specs.Moves.{goes_on, goes, moved, within, fit, start}
-use Rattle.candidates.specs.Rows.{wanted_of}
+use Rattle.candidates.specs.Rows.{given_of, wanted_of}
 use Rattle.candidates.proofs.GoesOn.{goes_on_within}
 
 pub moved_length : (es : List Example) (p : Part) (s : List ℕ) → length (moved es p s) ≡ length s
@@ -13,6 +13,22 @@ unfolding moved
 moved_length [] p s = refl
 moved_length (e ∷ es) p [] = refl
 moved_length (e ∷ es) p (j ∷ js) = ap suc (moved_length es p js)
+
+-- each position is moved on by what the part makes of its given text
+pub moved_at : (es : List Example) (p : Part) (s : List ℕ) (e : ℕ) → e < length es → e < length s → get_or (moved es p s) e 0 ≡ get_or s e 0 + made_length (part_of (given_of es e) p)
+unfolding moved
+moved_at [] p s e h k = absurd (omega arith)
+moved_at (x ∷ es) p [] e h k = absurd (omega arith)
+moved_at (x ∷ es) p (j ∷ js) zero h k = refl
+moved_at (x ∷ es) p (j ∷ js) (suc e) h k = moved_at es p js e (omega arith) (omega arith)
+
+-- and the numbers past the last example stay as they are
+pub moved_past : (es : List Example) (p : Part) (s : List ℕ) (e : ℕ) → length es ≤ e → get_or (moved es p s) e 0 ≡ get_or s e 0
+unfolding moved
+moved_past [] p s e h = refl
+moved_past (x ∷ es) p [] e h = refl
+moved_past (x ∷ es) p (j ∷ js) zero h = absurd (omega arith)
+moved_past (x ∷ es) p (j ∷ js) (suc e) h = moved_past es p js e (omega arith)
 
 pub moved_within : (es : List Example) (p : Part) (s : List ℕ) → within es s ≡ true → goes es p s ≡ true → within es (moved es p s) ≡ true
 unfolding moved within goes

@@ -1,7 +1,6 @@
 -- The steps laid down by index: what a loop has lowered so far, and what is still to be lowered, give the whole.
-use Rattle.std.proofs.Common.{◌≡◌, ℕ, zero, suc, Bool, true, false, cond, eqb, ◌+◌, ◌<◌, ◌≤◌, min, ◌⊎◌, List, [], ◌∷◌, ◌++◌, length, get_or, take, drop, set, sym, refl, ap, ◌∙◌, subst, inl, inr, append_assoc, arith, take-append-drop, length-take, ext_get_or}
-use Rattle.std.specs.List.{zip, prefix_len}
-use Rattle.std.proofs.lemmas.List.{drop_more, drop_all, take_more_set, drop-set-lt, get_or_past}
+use Rattle.std.proofs.Common.{◌≡◌, ℕ, ◌+◌, ◌<◌, ◌≤◌, min, ◌⊎◌, List, [], ◌∷◌, ◌++◌, length, get_or, take, drop, set, sym, refl, ap, ◌∙◌, subst, inl, inr, append_assoc, arith, take-append-drop, length-take, ext_get_or}
+use Rattle.std.proofs.lemmas.List.{drop_more, drop_all, take_more_set, drop-set-lt, get_or_past, get_or-take, get_or-drop}
 use Rattle.std.proofs.lemmas.Bool.{cases_lt, eq-eqb}
 use Rattle.std.proofs.lemmas.Bool.Decides.{nat_tests}
 use Rattle.candidates.specs.Weights.{smaller}
@@ -33,38 +32,6 @@ unfolding along
 along_no_wanted a cs gs [] = refl
 along_no_wanted a cs gs (n ∷ ns) = refl
 
--- how many bytes two texts begin alike with
-abbrev pub alike : List ℕ → List ℕ → ℕ
-alike gs ws = prefix_len (λ (p : ℕ × ℕ). eqb p.0 p.1) (zip gs ws)
-
-alike_within : (gs ws : List ℕ) → (alike gs ws ≤ length gs) × (alike gs ws ≤ length ws)
-alike_within [] ws = (omega arith, omega arith)
-alike_within (g ∷ gs) [] = (omega arith, omega arith)
-alike_within (g ∷ gs) (w ∷ ws) = let ih = alike_within gs ws in (grind arith, grind arith)
-
--- so many of the costs are there, and as much room
-pub alike_fits : (gs ws cs : List ℕ) (n : ℕ) → n ≡ alike gs ws → length gs ≤ length cs → (length (take n cs) ≡ n) × (n ≤ length gs) × (n ≤ length ws)
-alike_fits gs ws cs n is few = let within = alike_within gs ws in (omega (arith, length-take n cs), omega arith, omega arith)
-
-pub alike_below : (gs ws : List ℕ) (d : ℕ) → d < alike gs ws → get_or gs d 0 ≡ get_or ws d 0
-alike_below [] ws d h = absurd (omega arith)
-alike_below (g ∷ gs) [] d h = absurd (omega arith)
-alike_below (g ∷ gs) (w ∷ ws) zero h = grind (arith, nat_tests)
-alike_below (g ∷ gs) (w ∷ ws) (suc d) h = alike_below gs ws d (grind arith)
-
-pub alike_past : (gs ws : List ℕ) → alike gs ws < length gs → alike gs ws < length ws → get_or gs (alike gs ws) 0 ≡ get_or ws (alike gs ws) 0 → ⊥
-alike_past [] ws h k e = omega arith
-alike_past (g ∷ gs) [] h k e = omega arith
-alike_past (g ∷ gs) (w ∷ ws) h k e = go (eqb g w) refl (alike_past gs ws) h k e
-  where
-    go : (x : Bool) → eqb g w ≡ x → (alike gs ws < length gs → alike gs ws < length ws → get_or gs (alike gs ws) 0 ≡ get_or ws (alike gs ws) 0 → ⊥)
-        → cond x (1 + alike gs ws) 0 < suc (length gs) → cond x (1 + alike gs ws) 0 < suc (length ws)
-        → get_or (g ∷ gs) (cond x (1 + alike gs ws) 0) 0 ≡ get_or (w ∷ ws) (cond x (1 + alike gs ws) 0) 0 → ⊥
-    go true t past h k e =
-        let one : 1 + alike gs ws ≡ suc (alike gs ws) = omega arith in
-        past (omega arith) (omega arith) (subst (λ n. get_or (g ∷ gs) n 0 ≡ get_or (w ∷ ws) n 0) one e)
-    go false t past h k e = grind (arith, nat_tests)
-
 module _ (a : ℕ) (cs gs ws was : List ℕ) where
   pub along_starts : AlongSoFar a cs gs ws was 0 was
   unfolding AlongSoFar
@@ -92,32 +59,31 @@ module _ (a : ℕ) (cs gs ws was : List ℕ) where
   unfolding AlongSoFar
   along_stops d S e h = sym (take-append-drop d S) ∙ ap (λ l. take d S ++ l) (sym e) ∙ h
 
-  stops_apart : (d : ℕ) (S : List ℕ) → d < length gs → d < length ws → (get_or gs d 0 ≡ get_or ws d 0 → ⊥) → AlongSoFar a cs gs ws was d S → S ≡ along a cs gs ws was
-  stops_apart d S hg hw e h =
+  pub along_stops_apart : (d : ℕ) (S : List ℕ) → d < length gs → d < length ws → (get_or gs d 0 ≡ get_or ws d 0 → ⊥) → AlongSoFar a cs gs ws was d S → S ≡ along a cs gs ws was
+  along_stops_apart d S hg hw e h =
       along_stops d S (rw (drop_more gs d 0 hg, drop_more ws d 0 hw) (along_differ a (get_or gs d 0) (get_or ws d 0) (drop d cs) (drop (d + 1) gs) (drop (d + 1) ws) (drop d S) e)) h
 
   -- at the end of one of them
-  stops_past : (d : ℕ) (S : List ℕ) → min (length gs) (length ws) ≤ d → AlongSoFar a cs gs ws was d S → S ≡ along a cs gs ws was
-  stops_past d S l h = along_stops d S (past (cases_lt d (length gs))) h
+  pub along_ends : (d : ℕ) (S : List ℕ) → min (length gs) (length ws) ≤ d → AlongSoFar a cs gs ws was d S → S ≡ along a cs gs ws was
+  along_ends d S l h = along_stops d S (past (cases_lt d (length gs))) h
     where
       past : (d < length gs) ⊎ (length gs ≤ d) → along a (drop d cs) (drop d gs) (drop d ws) (drop d S) ≡ drop d S
       past (inr k) = rw (drop_all d gs k) (along_no_given a (drop d cs) (drop d ws) (drop d S))
       past (inl k) = let m : length ws ≤ d = omega arith in rw (drop_all d ws m) (along_no_wanted a (drop d cs) (drop d gs) (drop d S))
-
-  -- where they are no longer alike
-  pub along_ends : (d : ℕ) (S : List ℕ) → d ≡ alike gs ws → AlongSoFar a cs gs ws was d S → S ≡ along a cs gs ws was
-  along_ends d S is h = by_place (cases_lt d (length gs)) (cases_lt d (length ws))
-    where
-      by_place : (d < length gs) ⊎ (length gs ≤ d) → (d < length ws) ⊎ (length ws ≤ d) → S ≡ along a cs gs ws was
-      by_place (inl l) (inl m) = stops_apart d S l m (λ e. alike_past gs ws (omega arith) (omega arith) (subst (λ n. get_or gs n 0 ≡ get_or ws n 0) is e)) h
-      by_place (inl l) (inr m) = stops_past d S (omega arith) h
-      by_place (inr l) m = stops_past d S (omega arith) h
 
 -- literals laid down by index are the literal steps
 pub literals_laid : (ws S : List ℕ) → length S ≡ length ws → ((i : ℕ) → i < length S → get_or S i 0 ≡ literal_weight (i + 1)) → S ≡ literal_steps 0 ws
 literals_laid ws S e h =
     ext_get_or 0 S (literal_steps 0 ws) (e ∙ sym (length_literal_steps 0 ws))
     (λ i l. let a = h i l in let b = literal_at 0 ws i (omega arith) in omega arith)
+
+-- no number of a part is above n
+pub none_above_part : (n k j : ℕ) (xs : List ℕ) → NoneAbove n xs → NoneAbove n (take k (drop j xs))
+none_above_part n k j xs h i = by_place (cases_lt i k)
+  where
+    by_place : (i < k) ⊎ (k ≤ i) → get_or (take k (drop j xs)) i 0 ≤ n
+    by_place (inl l) = let a = get_or-take k (drop j xs) i 0 l in let b = get_or-drop j xs i 0 in let top = h (j + i) in omega arith
+    by_place (inr l) = let s = length-take k (drop j xs) in let a = get_or_past (take k (drop j xs)) i 0 (omega arith) in omega arith
 
 pub steps_small : (cs gs ws : List ℕ) → length ws ≤ 64 → NoneAbove 4177 (steps cs gs ws)
 steps_small cs gs ws h i = by_place (cases_lt i (length ws))

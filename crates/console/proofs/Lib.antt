@@ -5,6 +5,7 @@ pub mod PlacesBack
 pub mod WordsStrip
 pub mod RunsRead
 pub mod StepsRead
+pub mod ExitsTell
 pub mod ReadsBack
 pub mod ReadsRules
 pub mod RowsOfLines

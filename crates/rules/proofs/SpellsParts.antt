@@ -1,9 +1,9 @@
 -- Going through the parts of a rule spells it.
-use Rattle.std.proofs.Common.{◌≡◌, ℕ, ◌+◌, ◌*◌, ◌<◌, ◌≤◌, true, leb, List, [], ◌∷◌, ◌++◌, length, get_or, take, drop, IsOk, sym, refl, ap, ◌∙◌, append_assoc, append-nil, arith, length-append}
-use Rattle.std.proofs.lemmas.List.{take-append-drop}
+use Rattle.std.proofs.Common.{◌≡◌, ℕ, ◌+◌, ◌*◌, ◌<◌, ◌≤◌, true, leb, List, [], ◌∷◌, ◌++◌, length, get_or, take, drop, IsOk, Ok, Err, sym, refl, ap, ap₂, ◌∙◌, append_assoc, append-nil, arith, length-append}
+use Rattle.std.proofs.lemmas.List.{take-append-drop, take_at}
 use Rattle.std.proofs.lemmas.Bool.{le-leb, leb-true, and_parts}
-use Rattle.rules.specs.Answers.{written_told}
-use Rattle.rules.specs.Lists.{every, flat}
+use Rattle.rules.specs.Answers.{written, written_told, written_left}
+use Rattle.rules.specs.Lists.{pick, every, flat}
 use Rattle.rules.specs.Places.{Place, from_first, from_last, nth_of}
 use Rattle.rules.specs.Order.{place_spelled, part_spelled, rule_spelled}
 use Rattle.rules.specs.Rules.{Part, bytes, cut, Rule, a_part, a_rule}
@@ -47,6 +47,10 @@ module _ (ps : List declared.Part) where
       pub part_spelled_too : (v u : Writing) → v ≡ wrote w (spelling i) → u ≡ wrote v (part_spelled (the_part p)) → u ≡ wrote w (spelling (i + 1))
       part_spelled_too v u s t = wrote_next w v u (spelling i) (part_spelled (the_part p)) more_room s t ∙ ap (wrote w) (sym (one_more i p h e))
 
+-- what is told, and left, where there is room
+pub told_with_room : (bs out : List ℕ) → length bs ≤ length out → (written_told bs (length out) ≡ Ok (length bs)) × (written_left bs out ≡ written out 0 bs)
+told_with_room bs out h = let fits = le-leb (length bs) (length out) h in (ap (λ x. pick x (Ok (length bs)) (Err (record {}))) fits, ap (λ x. pick x (written out 0 bs) out) fits)
+
 -- HOW LONG A SPELLING IS
 place_bound : (p : Place) → length (place_spelled p) ≤ 7
 unfolding place_spelled
@@ -82,3 +86,11 @@ spelling_fits r room h e =
     let k = rule_bound r h in
     let fits = le-leb (length (rule_spelled r)) room (omega arith) in
     rw fits
+
+-- and in as many lent bytes it stands in front
+pub spelled_in_front : (r : Rule) (out after : List ℕ) (n : ℕ) → a_rule r ≡ true → length out ≡ 529 → Ok n ≡ written_told (rule_spelled r) (length out) → after ≡ written_left (rule_spelled r) out → (n ≤ 529) × (take n after ≡ rule_spelled r)
+spelled_in_front r out after n h e v a =
+    let k = rule_bound r h in
+    let told = told_with_room (rule_spelled r) out (omega arith) in
+    let long : n ≡ length (rule_spelled r) = let same = v ∙ told.0 in cc in
+    (omega arith, ap₂ take long (a ∙ told.1) ∙ take_at (rule_spelled r) _ _ refl)
