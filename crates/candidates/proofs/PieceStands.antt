@@ -14,8 +14,11 @@ module _ (b w : List ℕ) (j : ℕ) where
   unfolding piece_goes
   next_is x e = sym (ap (λ y. pick y (Some (j + length b)) None) e)
 
+  pub too_long : length w < j + length b → None ≡ next_position b w j
+  too_long h = next_is false (grind (arith, nat_tests))
+
   pub no_room : (length w < j) ⊎ (length w < length w) → None ≡ next_position b w j
-  no_room (inl h) = next_is false (grind (arith, nat_tests))
+  no_room (inl h) = too_long (omega arith)
   no_room (inr h) = absurd (omega arith)
 
   -- what is left begins with it

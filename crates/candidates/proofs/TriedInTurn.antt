@@ -2,6 +2,7 @@
 use Rattle.std.proofs.Common.{◌≡◌, ℕ, suc, ◌+◌, ◌<◌, ◌≤◌, true, false, List, [], ◌∷◌, ◌++◌, length, get_or, take, sym, refl, ap, ◌∙◌, subst, append-nil, arith}
 use Rattle.std.proofs.lemmas.List.{take_all, take_more}
 use Rattle.rules.specs.Lists.{pick, each, flat, up_to}
+use Rattle.rules.specs.Examples.{Example}
 use Rattle.rules.specs.Places.{Place}
 use Rattle.rules.specs.Values.{kind_number}
 use Rattle.rules.specs.declared.kind.Kind.{Kind}
@@ -14,35 +15,35 @@ use Rattle.candidates.specs.Tables.{examples_of, asked_of, the_table, Becomes, t
 use Rattle.candidates.proofs.RowAdded.{becomes_as}
 use Rattle.candidates.proofs.TableRows.{flat_append}
 
-module _ (q : Question) where
+module _ (es : List Example) (asked : List (List ℕ)) where
   -- a place is there in every given text, or missing in one
-  pub tried_there : (t : Table) (p : Place) (x : List ℕ) → lies_in_all (examples_of q) p ≡ true → x ≡ row_of (examples_of q) (asked_of q) p
-      → added t x ≡ tried_for q t p
+  pub tried_there : (t : Table) (p : Place) (x : List ℕ) → lies_in_all es p ≡ true → x ≡ row_of es asked p → added t x ≡ tried es asked t p
   unfolding tried
-  tried_there t p x h e = ap (added t) e ∙ sym (ap (λ b. pick b (added t (row_of (examples_of q) (asked_of q) p)) t) h)
+  tried_there t p x h e = ap (added t) e ∙ sym (ap (λ b. pick b (added t (row_of es asked p)) t) h)
 
-  pub tried_missing : (t : Table) (p : Place) → lies_in_all (examples_of q) p ≡ false → t ≡ tried_for q t p
+  pub tried_missing : (t : Table) (p : Place) → lies_in_all es p ≡ false → t ≡ tried es asked t p
   unfolding tried
-  tried_missing t p h = sym (ap (λ b. pick b (added t (row_of (examples_of q) (asked_of q) p)) t) h)
+  tried_missing t p h = sym (ap (λ b. pick b (added t (row_of es asked p)) t) h)
 
-  all_tried_append : (t : Table) (ps qs : List Place) → all_tried_for q t (ps ++ qs) ≡ all_tried_for q (all_tried_for q t ps) qs
+  all_tried_append : (t : Table) (ps qs : List Place) → all_tried es asked t (ps ++ qs) ≡ all_tried es asked (all_tried es asked t ps) qs
   unfolding all_tried
   all_tried_append t [] qs = refl
-  all_tried_append t (p ∷ ps) qs = all_tried_append (tried_for q t p) ps qs
+  all_tried_append t (p ∷ ps) qs = all_tried_append (tried es asked t p) ps qs
 
-  all_tried_one : (t : Table) (p : Place) → tried_for q t p ≡ all_tried_for q t (p ∷ [])
+  all_tried_one : (t : Table) (p : Place) → tried es asked t p ≡ all_tried es asked t (p ∷ [])
   unfolding all_tried
   all_tried_one t p = refl
 
   -- then more places, after some
-  pub tried_then : (start now then : Table) (ps qs all : List Place) → now ≡ all_tried_for q start ps → then ≡ all_tried_for q now qs → all ≡ ps ++ qs
-      → then ≡ all_tried_for q start all
-  tried_then start now then ps qs all e f a = f ∙ ap (λ t. all_tried_for q t qs) e ∙ sym (all_tried_append start ps qs) ∙ ap (all_tried_for q start) (sym a)
+  pub tried_then : (start now then : Table) (ps qs all : List Place) → now ≡ all_tried es asked start ps → then ≡ all_tried es asked now qs → all ≡ ps ++ qs
+      → then ≡ all_tried es asked start all
+  tried_then start now then ps qs all e f a = f ∙ ap (λ t. all_tried es asked t qs) e ∙ sym (all_tried_append start ps qs) ∙ ap (all_tried es asked start) (sym a)
 
-  pub tried_nothing : (t : Table) → t ≡ all_tried_for q t []
+  pub tried_nothing : (t : Table) → t ≡ all_tried es asked t []
   unfolding all_tried
   tried_nothing t = refl
 
+module _ (q : Question) where
   -- these places have been tried, from one table on
   pub record Tried (start : declared.Table) (ps : List Place) (now : declared.Table) : Type 0 where
     pub is : the_table now ≡ all_tried_for q (the_table start) ps
@@ -53,17 +54,17 @@ module _ (q : Question) where
   tried_same start now ps qs t e = subst (λ l. Tried start l now) (sym e) t
 
   pub tried_none : (t : declared.Table) → Tried t [] t
-  tried_none t = record { is = tried_nothing (the_table t); same_reference = refl }
+  tried_none t = record { is = tried_nothing (examples_of q) (asked_of q) (the_table t); same_reference = refl }
 
   pub tried_more : (start now then : declared.Table) (ps qs all : List Place) → Tried start ps now → Becomes now then (all_tried_for q (the_table now) qs)
       → all ≡ ps ++ qs → Tried start all then
   tried_more start now then ps qs all t b a =
-      record { is = tried_then (the_table start) (the_table now) (the_table then) ps qs all t.is b.is a; same_reference = b.same_reference ∙ t.same_reference }
+      record { is = tried_then (examples_of q) (asked_of q) (the_table start) (the_table now) (the_table then) ps qs all t.is b.is a; same_reference = b.same_reference ∙ t.same_reference }
 
   pub tried_one : (start now then : declared.Table) (ps all : List Place) (p : Place) → Tried start ps now → Becomes now then (tried_for q (the_table now) p)
       → all ≡ ps ++ p ∷ [] → Tried start all then
   tried_one start now then ps all p t b a =
-      tried_more start now then ps (p ∷ []) all t (becomes_as now then _ _ b (all_tried_one (the_table now) p)) a
+      tried_more start now then ps (p ∷ []) all t (becomes_as now then _ _ b (all_tried_one (examples_of q) (asked_of q) (the_table now) p)) a
 
   -- and no more are to be tried
   pub tried_end : (start now : declared.Table) (ps all : List Place) → Tried start ps now → ps ≡ all → Becomes start now (all_tried_for q (the_table start) all)
