@@ -47,7 +47,7 @@ fn along(room: &mut [u64], from: u64, costs: &[u64], given: &[u8], wanted: &[u8]
     ensures { room.new ≡ along from costs.now given.now wanted.now room.old }
 {
     // By number: of what is written through `iter_mut` in a zip a proof knows only how long it is. In one pass, since to count first how many bytes are alike
-    // took a quarter longer, and a zip with its numbers an eighth.
+    // took up to a quarter longer, and a zip with its numbers an eighth.
     let both = given.len().min(wanted.len());
     for (d, byte) in given[..both].iter().enumerate() {
         if *byte != wanted[d] {
